@@ -1,0 +1,207 @@
+-- What an accepted rule is known to be: it has a position and no more than the limit, each admits some byte, and some are not optional. For any limits of
+-- a rule's length and positions. Assumes nothing.
+use mathlib.Core.Path.{_≡_, refl, sym, subst, _∙_}
+use mathlib.Core.Bool.{Bool, true, false, not, _&&_, _||_}
+use mathlib.Core.Logic.{_⊎_, inl, inr, _≢_}
+use mathlib.Core.List.{List, [], _∷_}
+use Prim.Native.Nat.{ℕ, zero, suc, pred, _+_, _-_, _≤_}
+use native.Mathlib.Omega.{arith}
+use lib.Dec.{T, leb, ltb, eqb, leb→le, lt→ltb, eqb-refl}
+use lib.ListN.{length, drop, replicate, length-append, length-replicate}
+use Rattle.model.specs.Ascii.{byteOf, ascii}
+use Rattle.model.specs.Occurrence.{Position, all, shortest, oneIf}
+use Rattle.model.specs.RuleText.{ruleLimit, positionLimit, Kind, byte, any, class, gap, Often, once, optional, Element, kindSet, isByte, otherCase, position, kindPositions, positions, size, ReadKind, bad, good, someBelow, Items, items, faulty, itemsFrom, classOf, classAt, gapAt, boundAt, startsWith, escapeAt, kindAt, oftenAfter, markBytes, mayEscape, oneOf}
+use Rattle.model.specs.NumberedAnswers.{Parsed, refused, accepted, addElement, elementsFrom, orEmpty, parseWithin, parse, positionsBy, rulePositions}
+use Rattle.model.specs.WindowSearch.{Inhabited}
+use Rattle.model.proofs.Truth.{and-intro, and-left, and-right, or-cases, or-left, T-to, branch}
+use Rattle.model.proofs.Law.{inhabited-append}
+
+-- ---- a kind that was read has some byte, and a gap has its bounds in order
+
+abbrev KindOk : Bool → Kind → Type 0
+KindOk fold k = ((c : ℕ) × T (isByte c && kindSet fold k c)) × ((o : Often) → length (kindPositions fold k o) ≡ size k)
+
+some-byte : (s : ℕ → Bool) (n : ℕ) → n ≤ 256 → T (someBelow s n) → (c : ℕ) × T (isByte c && s c)
+some-byte s zero l t = absurd t
+some-byte s (suc n) l t = go (or-cases (s n) (someBelow s n) t) (some-byte s n (omega arith))
+  where
+    go : T (s n) ⊎ T (someBelow s n) → (T (someBelow s n) → (c : ℕ) × T (isByte c && s c)) → (c : ℕ) × T (isByte c && s c)
+    go (inl h) ih = (n, and-intro (isByte n) (s n) (lt→ltb n 256 l) h)
+    go (inr h) ih = ih h
+
+byte-ok : (fold : Bool) (b : ℕ) → T (isByte b) → KindOk fold (byte b)
+byte-ok fold b t = ((b, and-intro (isByte b) (eqb b b || fold && eqb (otherCase b) b) t (or-left (eqb b b) (fold && eqb (otherCase b) b) (eqb-refl b))), λ o. refl)
+
+good-kind : {k k′ : Kind} {n n′ : ℕ} → good k n ≡ good k′ n′ → k ≡ k′
+good-kind e = cc
+
+not-bad : {A : Type 0} {m : ℕ} {k : Kind} {n : ℕ} → bad m ≡ good k n → A
+not-bad e = let z : _≡_ {A = ℕ} 0 1 = cc in absurd (omega arith)
+
+class-ok : (fold turned : Bool) (is : Items) (k : Kind) (n : ℕ) → classOf fold turned is ≡ good k n → KindOk fold k
+class-ok fold turned faulty k n e = not-bad e
+class-ok fold turned (items [] m) k n e = not-bad e
+class-ok fold turned (items (r ∷ rs) m) k n e =
+    branch (someBelow (kindSet fold (class turned (r ∷ rs))) 256) e
+    (λ t q. subst (λ (q : Kind). KindOk fold q) (good-kind q) (some-byte (kindSet fold (class turned (r ∷ rs))) 256 (omega arith) t, λ o. refl))
+    (λ t q. not-bad q)
+
+classAt-ok : (fold : Bool) (cs : List ℕ) (k : Kind) (n : ℕ) → classAt fold cs ≡ good k n → KindOk fold k
+classAt-ok fold [] k n e = not-bad e
+classAt-ok fold (c ∷ cs) k n e =
+    branch (eqb c (byteOf "^")) e (λ t q. class-ok fold true (itemsFrom 0 2 cs) k n q) (λ t q. class-ok fold false (itemsFrom 0 1 (c ∷ cs)) k n q)
+
+-- A kind for which `good` was found in another way.
+is-kind : (fold : Bool) {k k′ : Kind} {n n′ : ℕ} → KindOk fold k → good k n ≡ good k′ n′ → KindOk fold k′
+is-kind fold h e = subst (λ (q : Kind). KindOk fold q) (good-kind e) h
+
+gap-length : (fold : Bool) (a b : ℕ) (o : Often) → a ≤ b → length (kindPositions fold (gap a b) o) ≡ b
+gap-length fold a b o h =
+    let p = position fold any optional in
+    let q = position fold any once in
+    omega (arith, length-append (replicate (b - a) p) (replicate a q), length-replicate (b - a) p, length-replicate a q)
+
+gapAt-ok : (fold : Bool) (cs : List ℕ) (k : Kind) (n : ℕ) → gapAt cs ≡ good k n → KindOk fold k
+gapAt-ok fold cs k n e =
+    let a = boundAt cs in
+    let after-a = drop (a .bytes) cs in
+    let b = boundAt (drop 1 after-a) in
+    let after-b = drop (1 + b .bytes) after-a in
+    let form = leb 1 (a .bytes) && startsWith (byteOf ",") after-a && leb 1 (b .bytes) && startsWith (byteOf "}") after-b in
+    let order = leb (a .value) (b .value) in
+    let some = leb 1 (b .value) in
+    branch (form && order && some) e
+    (λ t q.
+    is-kind fold {k = gap (a .value) (b .value)}
+    ((0, tt), λ o. gap-length fold (a .value) (b .value) o (leb→le (a .value) (b .value) (and-right form order (and-left (form && order) some t))))
+    q)
+    (λ t q. not-bad q)
+
+escapeAt-ok : (fold : Bool) (cs : List ℕ) → T (all isByte cs) → (k : Kind) (n : ℕ) → escapeAt cs ≡ good k n → KindOk fold k
+escapeAt-ok fold [] a k n e = not-bad e
+escapeAt-ok fold (c ∷ cs) a k n e = branch (mayEscape c) e (λ t q. is-kind fold (byte-ok fold c (and-left (isByte c) (all isByte cs) a)) q) (λ t q. not-bad q)
+
+kindAt-ok : (fold : Bool) (cs : List ℕ) → T (all isByte cs) → (k : Kind) (n : ℕ) → kindAt fold cs ≡ good k n → KindOk fold k
+kindAt-ok fold [] a k n e = not-bad e
+kindAt-ok fold (c ∷ cs) a k n e =
+    branch (eqb c (byteOf ".")) e (λ t q. is-kind fold {k = any} ((0, tt), λ o. refl) q) λ t e.
+    branch (eqb c (byteOf "[")) e (λ t q. classAt-ok fold cs k n q) λ t e.
+    branch (eqb c (byteOf "{")) e (λ t q. gapAt-ok fold cs k n q) λ t e.
+    branch (eqb c (byteOf "\\")) e (λ t q. escapeAt-ok fold cs (and-right (isByte c) (all isByte cs) a) k n q) λ t e.
+    branch (oneOf (ascii "?+*") c) e (λ t q. not-bad q) λ t e.
+    branch (oneOf (ascii "]}") c) e (λ t q. not-bad q) λ t e.
+    is-kind fold (byte-ok fold c (and-left (isByte c) (all isByte cs) a)) e
+
+-- ---- its positions
+
+inhabited-replicate : (n : ℕ) (p : Position) → (c : ℕ) × T (p .set c) → Inhabited (replicate n p)
+inhabited-replicate zero p h = tt
+inhabited-replicate (suc n) p h = (h, inhabited-replicate n p h)
+
+kind-inhabited : (fold : Bool) (k : Kind) (o : Often) → (c : ℕ) × T (isByte c && kindSet fold k c) → Inhabited (kindPositions fold k o)
+kind-inhabited fold (byte b) o h = (h, tt)
+kind-inhabited fold any o h = (h, tt)
+kind-inhabited fold (class t rs) o h = (h, tt)
+kind-inhabited fold (gap a b) o h =
+    inhabited-append (replicate (b - a) (position fold any optional)) (replicate a (position fold any once))
+    (inhabited-replicate (b - a) (position fold any optional) h) (inhabited-replicate a (position fold any once) h)
+
+-- ---- the elements
+
+pub record ElementsOk (most : ℕ) (fold : Bool) (used : ℕ) (es : List Element) : Type 0 where
+  pub inhabited : Inhabited (positions fold es)
+  pub few : used + length (positions fold es) ≤ most
+
+accepted-inj : {es fs : List Element} → accepted es ≡ accepted fs → es ≡ fs
+accepted-inj e = cc
+
+not-refused : {A : Type 0} {m p : ℕ} {es : List Element} → refused m p ≡ accepted es → A
+not-refused e = let z : _≡_ {A = ℕ} 0 1 = cc in absurd (omega arith)
+
+elements-bad : (most : ℕ) (fold : Bool) (c : ℕ) (cs : List ℕ) (place used n : ℕ) → kindAt fold (c ∷ cs) ≡ bad n → elementsFrom most fold zero place used (c ∷ cs) ≡ refused n place
+elements-bad most fold c cs place used n q = rw (q, elementsFrom)
+
+elements-over : (most : ℕ) (fold : Bool) (c : ℕ) (cs : List ℕ) (place used n : ℕ) (k : Kind) → kindAt fold (c ∷ cs) ≡ good k n → leb (used + size k) most ≡ false
+    → elementsFrom most fold zero place used (c ∷ cs) ≡ refused 7 place
+elements-over most fold c cs place used n k q r = rw (q, r, elementsFrom)
+
+elements-good : (most : ℕ) (fold : Bool) (c : ℕ) (cs : List ℕ) (place used n : ℕ) (k : Kind) → kindAt fold (c ∷ cs) ≡ good k n → leb (used + size k) most ≡ true
+    → elementsFrom most fold zero place used (c ∷ cs)
+    ≡ addElement (record { kind = k; often = oftenAfter k (drop n (c ∷ cs)) })
+    (elementsFrom most fold (pred n + markBytes (oftenAfter k (drop n (c ∷ cs)))) (suc place) (used + size k) cs)
+elements-good most fold c cs place used n k q r = rw (q, r, elementsFrom)
+
+added : (e : Element) (p : Parsed) (es : List Element) → addElement e p ≡ accepted es → (fs : List Element) × (p ≡ accepted fs) × (e ∷ fs ≡ es)
+added e (refused n q) es h = not-refused h
+added e (accepted fs) es h = (fs, refl, accepted-inj h)
+
+pub elements-ok : (most : ℕ) (fold : Bool) (cs : List ℕ) → T (all isByte cs) → (skip place used : ℕ) (es : List Element)
+    → used ≤ most → elementsFrom most fold skip place used cs ≡ accepted es → ElementsOk most fold used es
+elements-ok most fold [] bytes skip place used es h e =
+    subst (λ (l : List Element). ElementsOk most fold used l) (accepted-inj e) (record { inhabited = tt; few = omega arith })
+elements-ok most fold (c ∷ cs) bytes (suc k) place used es h e = elements-ok most fold cs (and-right (isByte c) (all isByte cs) bytes) k (suc place) used es h e
+elements-ok most fold (c ∷ cs) bytes zero place used es h e = by-kind (kindAt fold (c ∷ cs)) refl (elements-ok most fold cs (and-right (isByte c) (all isByte cs) bytes))
+  where
+    by-kind : (r : ReadKind) → kindAt fold (c ∷ cs) ≡ r
+        → ((skip place used : ℕ) (es : List Element) → used ≤ most → elementsFrom most fold skip place used cs ≡ accepted es → ElementsOk most fold used es)
+        → ElementsOk most fold used es
+    by-kind (bad n) q ih = not-refused (sym (elements-bad most fold c cs place used n q) ∙ e)
+    by-kind (good k n) q ih = by-room (leb (used + size k) most) refl
+      where
+        by-room : (b : Bool) → leb (used + size k) most ≡ b → ElementsOk most fold used es
+        by-room false r = not-refused (sym (elements-over most fold c cs place used n k q r) ∙ e)
+        by-room true r =
+            let o = oftenAfter k (drop n (c ∷ cs)) in
+            let room : used + size k ≤ most = leb→le (used + size k) most (T-to (sym r) tt) in
+            let ok = kindAt-ok fold (c ∷ cs) bytes k n q in
+            let a =
+            added (record { kind = k; often = o }) (elementsFrom most fold (pred n + markBytes o) (suc place) (used + size k) cs) es
+            (sym (elements-good most fold c cs place used n k q r) ∙ e) in
+            let fs = a .0 in
+            let rest = ih (pred n + markBytes o) (suc place) (used + size k) fs room (a .1) in
+            let more = rest .few in
+            let whole : ElementsOk most fold used (record { kind = k; often = o } ∷ fs) = record {
+              inhabited = inhabited-append (kindPositions fold k o) (positions fold fs) (kind-inhabited fold k o (ok .0)) (rest .inhabited);
+              few = omega (arith, length-append (kindPositions fold k o) (positions fold fs), ok .1 o);
+            } in
+            subst (λ (l : List Element). ElementsOk most fold used l) (a .2) whole
+
+-- ---- the rule
+
+pub record RuleOk (most : ℕ) (ps : List Position) : Type 0 where
+  pub inhabited : Inhabited ps
+  pub some : 1 ≤ length ps
+  pub few : length ps ≤ most
+  pub not-empty : 1 ≤ shortest ps
+
+shortest-length : (ps : List Position) → shortest ps ≤ length ps
+shortest-length [] = omega arith
+shortest-length (p ∷ ps) = go (not (p .optional)) (shortest-length ps)
+  where
+    go : (b : Bool) → shortest ps ≤ length ps → oneIf b + shortest ps ≤ suc (length ps)
+    go true h = omega arith
+    go false h = omega arith
+
+pub accepted-ok : (longest most : ℕ) (fold : Bool) (rule : List ℕ) (es : List Element) → T (all isByte rule) → parseWithin longest most fold rule ≡ accepted es → RuleOk most (positions fold es)
+accepted-ok longest most fold rule es bytes e =
+    branch (eqb (length rule) 0) e (λ t q. not-refused q) λ t e.
+    branch (ltb longest (length rule)) e (λ t q. not-refused q) λ t e.
+    go (elementsFrom most fold 0 0 0 rule) refl e
+  where
+    not-eqb : (k : ℕ) → k ≡ 0 → T (not (eqb k 0)) → ⊥
+    not-eqb k z t = subst (λ (j : ℕ). T (not (eqb j 0))) z t
+
+    go : (p : Parsed) → elementsFrom most fold 0 0 0 rule ≡ p → orEmpty fold rule p ≡ accepted es → RuleOk most (positions fold es)
+    go (refused n p) q e = not-refused e
+    go (accepted fs) q e =
+        branch (eqb (shortest (positions fold fs)) 0) e (λ t q. not-refused q) λ t r.
+        let ok = elements-ok most fold rule bytes 0 0 0 fs (omega arith) q in
+        let n = ok .few in
+        let s : shortest (positions fold fs) ≢ 0 = λ z. not-eqb (shortest (positions fold fs)) z t in
+        let l = shortest-length (positions fold fs) in
+        subst (λ (l : List Element). RuleOk most (positions fold l)) (accepted-inj r)
+        (record { inhabited = ok .inhabited; some = omega arith; few = omega arith; not-empty = omega arith })
+
+pub rule-ok : (fold : Bool) (rule : List ℕ) (es : List Element) → T (all isByte rule) → parse fold rule ≡ accepted es → RuleOk positionLimit (rulePositions fold rule)
+rule-ok fold rule es bytes e =
+    subst (λ (p : Parsed). RuleOk positionLimit (positionsBy fold p)) (sym e) (accepted-ok ruleLimit positionLimit fold rule es bytes e)

@@ -1,0 +1,181 @@
+-- Sentences and edges of document 01 as closed cases of the definitions, by computing: rules that are refused or accepted, references, held tails, the
+-- lister's example, a plan cut inside `&amp;`, and what is shown. (M1 to M12 are in `Marked`.) Assumes nothing.
+use mathlib.Core.Path.{_≡_, refl}
+use mathlib.Core.Bool.{Bool, true, false, _&&_}
+use mathlib.Core.List.{List, [], _∷_, _++_}
+use Prim.Native.Nat.{ℕ}
+use lib.Dec.{T, eqb}
+use lib.ListN.{length, replicate}
+use Rattle.model.specs.Ascii.{ascii}
+use Rattle.model.specs.Occurrence.{Position, shortest, ends, starts}
+use Rattle.model.specs.RuleText.{foldFlag, kindSet, class, byte, gap, once, optional, repeatable}
+use Rattle.model.specs.NumberedAnswers.{accepted, parse, rulePositions, overwrite}
+use Rattle.model.specs.References.{formLimit, decode, heldTail}
+use Rattle.model.specs.PlainScan.{feed, finish, refused, reported, plainScan, reportedEnds}
+use Rattle.model.specs.WindowSearch.{windows, shown}
+use Rattle.model.specs.MarkedTable.{same, isRefused}
+
+-- ---- rules
+
+data Rule : Type 0 where
+  refuses : (rule : List ℕ) (number place : ℕ) → Rule
+  has : (rule : List ℕ) (positions shortest : ℕ) → Rule
+
+abbrev ruleHolds : (fold : Bool) → Rule → Bool
+ruleHolds fold (refuses rule n p) = isRefused (parse fold rule) n p
+ruleHolds fold (has rule n m) = eqb n (length (rulePositions fold rule)) && eqb m (shortest (rulePositions fold rule))
+
+abbrev rulesHold : (fold : Bool) → List Rule → Bool
+rulesHold fold [] = true
+rulesHold fold (r ∷ rs) = ruleHolds fold r && rulesHold fold rs
+
+rules : T (rulesHold false (
+    refuses [] 1 0
+    ∷ has (replicate 63 97) 63 63
+    ∷ refuses (replicate 64 97) 7 63
+    ∷ refuses (ascii "[" ++ replicate 253 97) 3 0  -- 254 bytes
+    ∷ has (ascii "[" ++ replicate 253 97 ++ ascii "]") 1 1  -- 255 bytes
+    ∷ refuses (replicate 256 97) 2 255
+    ∷ has (ascii "{1,63}") 63 1
+    ∷ has (ascii "{01,02}") 2 1
+    ∷ refuses (ascii "{1,63}a") 7 6
+    ∷ refuses (ascii "{1,64}") 7 0
+    ∷ refuses (ascii "{1,99}?") 7 0
+    ∷ refuses (ascii "{1,63}?") 5 6
+    ∷ refuses (ascii "{1,63}a??") 7 6
+    ∷ refuses (ascii "{1,63}[b-a]") 3 6
+    ∷ refuses (ascii "{99,98}") 4 0
+    ∷ refuses (ascii "{0,0}") 4 0
+    ∷ refuses (ascii "a{001,2}") 4 1
+    ∷ refuses (ascii "{1}") 4 0
+    ∷ refuses (ascii "{1,}") 4 0
+    ∷ refuses (ascii "[]") 3 0
+    ∷ refuses (ascii "[^]") 3 0
+    ∷ refuses (ascii "[]a]") 3 0
+    ∷ refuses (ascii "[^-a]") 3 0
+    ∷ refuses (ascii "[a-b-c]") 3 0
+    ∷ refuses (ascii "x[a-]") 3 1
+    ∷ refuses (ascii "[--a]") 3 0
+    ∷ refuses (ascii "[b-a]") 3 0
+    ∷ refuses (ascii "[a\\") 3 0
+    ∷ refuses (ascii "[\\a]") 3 0
+    ∷ has (ascii "[\\--a]") 1 1
+    ∷ has (ascii "[+-\\-]") 1 1
+    ∷ has (ascii "[^^]") 1 1
+    ∷ has (ascii "[a^[.]") 1 1
+    ∷ refuses (ascii "[^" ++ (0 ∷ 45 ∷ 255 ∷ 93 ∷ [])) 3 0
+    ∷ refuses (ascii "?a") 5 0
+    ∷ refuses (ascii "a??") 5 2
+    ∷ refuses (ascii "{1,2}+") 5 5
+    ∷ refuses (ascii "ab\\") 6 2
+    ∷ refuses (ascii "\\a") 6 0
+    ∷ refuses (ascii "ab}") 6 2
+    ∷ refuses (ascii "]") 6 0
+    ∷ has (ascii "\\.^-,0") 5 5
+    ∷ refuses (ascii "a?.*{0,9}") 8 9
+    ∷ has (0 ∷ 10 ∷ []) 2 2
+    ∷ []
+    ))
+rules = tt
+
+-- The fold flag alone can leave a class with no byte: `[^` and all bytes but A, which has a.
+abbrev allBut : List ℕ
+allBut = ascii "[^" ++ (0 ∷ 45 ∷ 64 ∷ 66 ∷ 45 ∷ 255 ∷ 93 ∷ [])
+
+fold-decides : T (ruleHolds false (has allBut 1 1) && ruleHolds true (refuses allBut 3 0))
+fold-decides = tt
+
+-- "any number but 0"
+fold-flags : (foldFlag 0 ≡ false) × (foldFlag 1 ≡ true) × (foldFlag 256 ≡ true) × (foldFlag 2147483648 ≡ true)
+fold-flags = (refl, refl, refl, refl)
+
+elements : parse false (ascii "[^a\\]-\\^{]+\\+?{2,3}") ≡ accepted (
+    record { kind = class true (record { low = 97; high = 97 } ∷ record { low = 93; high = 94 } ∷ record { low = 123; high = 123 } ∷ []); often = repeatable }
+    ∷ record { kind = byte 43; often = optional }
+    ∷ record { kind = gap 2 3; often = once }
+    ∷ []
+    )
+elements = refl
+
+-- "Turning a folded `[^a]` round before widening: it then admits `a`."
+turned-last : (kindSet true (class true (record { low = 97; high = 97 } ∷ [])) 97 ≡ false) × (kindSet true (class true (record { low = 97; high = 97 } ∷ [])) 65 ≡ false)
+turned-last = (refl, refl)
+
+folded : reportedEnds (plainScan 256 (ascii "rOw") (feed (ascii "Row row rov") 20 ∷ finish 9 ∷ [])) ≡ 3 ∷ 7 ∷ []
+folded = refl
+
+-- ---- references
+
+data Raw : Type 0 where
+  decodes : (raw text : List ℕ) → Raw
+  holds : (raw tail : List ℕ) → Raw
+
+abbrev rawHolds : List Raw → Bool
+rawHolds [] = true
+rawHolds (decodes raw text ∷ rs) = same text (decode formLimit raw) && rawHolds rs
+rawHolds (holds raw tail ∷ rs) = same tail (heldTail formLimit raw) && rawHolds rs
+
+references : T (rawHolds (
+    decodes (ascii "&lt;&gt;&amp;&apos;&quot;") (ascii "<>&'\"")
+    ∷ decodes (ascii "&#38;#60;") (ascii "&#60;")
+    ∷ decodes (ascii "&#x10FFFF;") (244 ∷ 143 ∷ 191 ∷ 191 ∷ [])
+    ∷ decodes (ascii "&#x110000;") (ascii "&#x110000;")
+    ∷ decodes (ascii "&#xD7FF;") (237 ∷ 159 ∷ 191 ∷ [])
+    ∷ decodes (ascii "&#xd800;&#xDFFF;") (ascii "&#xd800;&#xDFFF;")
+    ∷ decodes (ascii "&#xE000;&#xFFFD;") (238 ∷ 128 ∷ 128 ∷ 239 ∷ 191 ∷ 189 ∷ [])
+    ∷ decodes (ascii "&#xFFFE;&#xFFFF;") (ascii "&#xFFFE;&#xFFFF;")
+    ∷ decodes (ascii "&#9;&#10;&#13;&#32;") (9 ∷ 10 ∷ 13 ∷ 32 ∷ [])
+    ∷ decodes (ascii "&#8;&#11;&#31;") (ascii "&#8;&#11;&#31;")
+    ∷ decodes (ascii "&#X26;&AMP;&#;&#x;") (ascii "&#X26;&AMP;&#;&#x;")
+    ∷ decodes (ascii "&#0000038;&#00000038;") (ascii "&&#00000038;")  -- ten bytes, and eleven
+    ∷ decodes (ascii "&&amp;&am&amp;&") (ascii "&&&am&&")
+    ∷ holds (ascii "a&am") (ascii "&am")
+    ∷ holds (ascii "&#xD800") (ascii "&#xD800")
+    ∷ holds (ascii "&#12345678") []  -- ten bytes: no room for the `;`
+    ∷ holds (ascii "&#1234567") (ascii "&#1234567")
+    ∷ holds (ascii "&&") (ascii "&")
+    ∷ holds (ascii "&amp;") []
+    ∷ holds (ascii "&ax") []
+    ∷ []
+    ))
+references = tt
+
+-- ---- the lister's example
+
+abbrev rule : List ℕ
+rule = ascii "Row A&B [0-9]+"
+
+abbrev row : List Position
+row = rulePositions false rule
+
+abbrev plan : List ℕ
+plan = decode formLimit (ascii "Row A&amp;B 12;")
+
+lister : (length row ≡ 9) × (shortest row ≡ 9) × (ends row plan ≡ 9 ∷ 10 ∷ []) × (starts row plan ≡ 0 ∷ []) × (length (windows row plan) ≡ 1)
+lister = (refl, refl, refl, refl, refl)
+
+-- "Forgetting held bytes at a cut inside `&amp;`": the plan in two pieces, cut there, with a feed that is refused for its short list between them, an
+-- empty piece, and calls after the finish.
+cut-plan : plainScan 0 rule (feed (ascii "Row A&a") 16 ∷ feed (ascii "x") 9 ∷ feed [] 9 ∷ feed (ascii "mp;B 12;") 17 ∷ finish 8 ∷ finish 9 ∷ feed [] 9 ∷ finish 9 ∷ [])
+    ≡ reported [] ∷ refused 9 ∷ reported [] ∷ reported (9 ∷ 10 ∷ []) ∷ refused 9 ∷ reported [] ∷ refused 12 ∷ refused 12 ∷ []
+cut-plan = refl
+
+-- A feed of one byte that reports ten ends, and a finish that lets nine through.
+ten-ends : plainScan 0 (ascii ".") (feed (ascii "&#1234567") 18 ∷ feed (ascii "8") 10 ∷ feed (ascii "&#1234567") 18 ∷ finish 9 ∷ [])
+    ≡ reported []
+    ∷ reported (1 ∷ 2 ∷ 3 ∷ 4 ∷ 5 ∷ 6 ∷ 7 ∷ 8 ∷ 9 ∷ 10 ∷ [])
+    ∷ reported []
+    ∷ reported (11 ∷ 12 ∷ 13 ∷ 14 ∷ 15 ∷ 16 ∷ 17 ∷ 18 ∷ 19 ∷ [])
+    ∷ []
+ten-ends = refl
+
+-- ---- what is shown, and a lent list at exit
+
+shows : (shown 0 rule plan 0 ≡ record { from = 0; to = 9 })
+    × (shown 0 rule plan 1 ≡ record { from = 11; to = 11 })
+    × (shown 0 rule plan 12 ≡ record { from = 11; to = 11 })
+    × (shown 0 (ascii "a?") plan 0 ≡ record { from = 11; to = 11 })
+shows = (refl, refl, refl, refl)
+
+lent : overwrite (7 ∷ 7 ∷ 7 ∷ []) (1 ∷ 2 ∷ []) ≡ 1 ∷ 2 ∷ 7 ∷ []
+lent = refl

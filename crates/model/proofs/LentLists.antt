@@ -1,0 +1,35 @@
+-- Stores into a lent list: one run after another, stores into a part of it, and what they make of the whole. Assumes nothing.
+use mathlib.Core.Path.{_≡_, sym, _∙_}
+use mathlib.Core.List.{List, [], _∷_, _++_, append-assoc}
+use Prim.Native.Nat.{ℕ, suc, _+_, _-_, _≤_}
+use native.Mathlib.Nat.{add-zero, add-suc, suc-add, zero-add}
+use native.Mathlib.Omega.{arith}
+use lib.ListN.{length, set, take, drop, length-drop, take-append-drop}
+use lib.Seq.{sets, sets-eq, drop-drop, drop-append-le, length-take-le}
+use borrow.Rule.Slice.PartMut.{putMid, midOf}
+use Rattle.model.specs.NumberedAnswers.{overwrite}
+
+-- a run of stores and then another is the run of both
+pub sets-append : (l : List ℕ) (i : ℕ) (xs ys : List ℕ) → sets l i (xs ++ ys) ≡ sets (sets l i xs) (i + length xs) ys
+sets-append l i [] ys = rw add-zero
+sets-append l i (x ∷ xs) ys = sets-append (set l i x) (suc i) xs ys ∙ rw (suc-add, add-suc)
+
+-- Stores at the front of the part of k elements from a on, `&mut l[a..a + k]` or `&mut l[a..]`, are stores from a on in the whole: `putMid` is
+-- what the borrow checker says of the whole when the part comes back, and `midOf` the part that was lent.
+pub sets-mid : (l : List ℕ) (a k : ℕ) (vs : List ℕ) → a + k ≤ length l → length vs ≤ k → putMid a k l (sets (midOf a k l) 0 vs) ≡ sets l a vs
+sets-mid l a k vs h v =
+    let x : List ℕ = drop a l in
+    let n : k ≤ length x = omega (arith, length-drop a l) in
+    let m : length (take k x) ≡ k = length-take-le k x n in
+    let e : sets (take k x) 0 vs ≡ vs ++ drop (length vs) (take k x) = sets-eq vs (take k x) 0 (omega arith) ∙ rw zero-add in
+    let f : drop (length vs) (take k x) ++ drop k x ≡ drop (length vs) x =
+    sym (drop-append-le (length vs) (take k x) (drop k x) (omega arith)) ∙ rw take-append-drop in
+    rw (e, append-assoc vs, f, drop-drop) (sym (append-assoc (take a l) vs _) ∙ sym (sets-eq vs l a (omega arith)))
+
+-- the same for the part from a to the end
+pub sets-from : (l : List ℕ) (a : ℕ) (vs : List ℕ) → a + length vs ≤ length l → putMid a (length l - a) l (sets (midOf a (length l - a) l) 0 vs) ≡ sets l a vs
+sets-from l a vs h = sets-mid l a (length l - a) vs (omega arith) (omega arith)
+
+-- from the front: what a call's contract says of the list
+pub sets-overwrite : (l vs : List ℕ) → length vs ≤ length l → sets l 0 vs ≡ overwrite l vs
+sets-overwrite l vs h = sets-eq vs l 0 (omega arith) ∙ rw zero-add

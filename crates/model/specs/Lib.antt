@@ -1,0 +1,9 @@
+-- The seat-rule finder: document 01 as definitions, a file for each of its sections. ("Forward step" is in the crate `words`.)
+pub mod Ascii
+pub mod Occurrence
+pub mod RuleText
+pub mod NumberedAnswers
+pub mod References
+pub mod PlainScan
+pub mod WindowSearch
+pub mod MarkedTable

@@ -1,0 +1,71 @@
+-- Document 01, "Marked table": M1 to M12 as one list of cases, and what it is for them to hold. Assumes nothing.
+use mathlib.Core.Bool.{Bool, true, false, _&&_}
+use mathlib.Core.List.{List, [], _∷_}
+use Prim.Native.Nat.{ℕ, _+_}
+use lib.Dec.{eqb}
+use lib.ListN.{length}
+use Rattle.model.specs.Ascii.{ascii}
+use Rattle.model.specs.Occurrence.{ends, starts}
+use Rattle.model.specs.NumberedAnswers.{Parsed, refused, accepted, parse, rulePositions}
+use Rattle.model.specs.References.{formLimit, heldMost, decode}
+use Rattle.model.specs.PlainScan.{feed, finish, plainScan, reportedEnds}
+use Rattle.model.specs.WindowSearch.{windows}
+
+pub data Count : Type 0 where
+  marked : ℕ → Count
+  notMarked : Count
+
+pub data Case : Type 0 where
+  finds : (rule text : List ℕ) (ends starts : List ℕ) (windows : Count) → Case
+  decodes : (raw text : List ℕ) → Case
+  refuses : (rule : List ℕ) (number place : ℕ) → Case
+
+abbrev pub same : List ℕ → List ℕ → Bool
+same [] [] = true
+same [] (c ∷ cs) = false
+same (b ∷ bs) [] = false
+same (b ∷ bs) (c ∷ cs) = eqb b c && same bs cs
+
+abbrev pub counts : Count → ℕ → Bool
+counts notMarked n = true
+counts (marked k) n = eqb k n
+
+abbrev pub isAccepted : Parsed → Bool
+isAccepted (refused n p) = false
+isAccepted (accepted es) = true
+
+abbrev pub isRefused : Parsed → (number place : ℕ) → Bool
+isRefused (refused n p) number place = eqb n number && eqb p place
+isRefused (accepted es) number place = false
+
+-- The text fed to the plain scan as one piece, and then finished: all the ends that it reports.
+abbrev pub fed : (rule text : List ℕ) → List ℕ
+fed rule text = reportedEnds (plainScan 0 rule (feed text (length text + heldMost formLimit) ∷ finish (heldMost formLimit) ∷ []))
+
+abbrev pub holds : Case → Bool
+holds (finds rule text e s w) =
+    let ps = rulePositions false rule in
+    isAccepted (parse false rule) && same e (ends ps text) && same e (fed rule text) && same s (starts ps text) && counts w (length (windows ps text))
+holds (decodes raw text) = same text (decode formLimit raw)
+holds (refuses rule number place) = isRefused (parse false rule) number place
+
+abbrev pub allHold : List Case → Bool
+allHold [] = true
+allHold (c ∷ cs) = holds c && allHold cs
+
+abbrev pub table : List Case
+table =
+    finds (ascii "abc{1,3}de") (ascii "abcabcffdee") (10 ∷ []) (3 ∷ []) (marked 2)  -- M1
+    ∷ finds (ascii "ab?c*de+f") (ascii "acccdfabdeeeef") (14 ∷ []) (6 ∷ []) notMarked  -- M2
+    ∷ finds (ascii "abc?d?efg?h") (ascii "abefh") (5 ∷ []) (0 ∷ []) (marked 1)  -- M3
+    ∷ finds (ascii "a+") (ascii "aaa") (1 ∷ 2 ∷ 3 ∷ []) (0 ∷ 1 ∷ 2 ∷ []) (marked 3)  -- M4
+    ∷ finds (ascii "ab?") (ascii "ab") (1 ∷ 2 ∷ []) (0 ∷ []) (marked 2)  -- M5
+    ∷ finds (ascii "a?b") (ascii "ab") (2 ∷ []) (0 ∷ 1 ∷ []) (marked 2)  -- M6
+    ∷ finds (ascii "{1,2}a") (ascii "xxa") (3 ∷ []) (0 ∷ 1 ∷ []) (marked 2)  -- M7
+    ∷ finds (ascii "a") [] [] [] (marked 0)  -- M8
+    ∷ decodes (ascii "&amp;amp;") (ascii "&amp;")  -- M9
+    ∷ decodes (ascii "&#xE9;") (195 ∷ 169 ∷ [])  -- M10
+    ∷ decodes (ascii "&#0;") (ascii "&#0;")  -- M11
+    ∷ decodes (ascii "&am") (ascii "&am")
+    ∷ refuses (ascii "a?") 8 2  -- M12
+    ∷ []

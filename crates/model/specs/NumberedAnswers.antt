@@ -1,0 +1,65 @@
+-- Document 01, "Numbered answers": rows 1 to 8 and their order, the limit of a text, and lists at exit. (Rows 9, 10 and 12 of the scan calls stand in
+-- `PlainScan`.) Assumes nothing.
+use mathlib.Core.Bool.{Bool, true, false, cond}
+use mathlib.Core.List.{List, [], _∷_, _++_}
+use Prim.Native.Nat.{ℕ, zero, suc, pred, _+_}
+use lib.Dec.{leb, ltb, eqb}
+use lib.ListN.{length, drop}
+use Rattle.model.specs.Occurrence.{Position, shortest}
+use Rattle.model.specs.RuleText.{ruleLimit, positionLimit, Element, positions, size, bad, good, kindAt, oftenAfter, markBytes}
+
+-- Row 10: "more than 4,294,967,295 bytes in the text, or in all the pieces".
+abbrev pub textLimit : ℕ
+textLimit = 4294967295
+
+-- A rule is refused with a number and a place, or it has elements.
+pub data Parsed : Type 0 where
+  refused : (number place : ℕ) → Parsed
+  accepted : List Element → Parsed
+
+abbrev pub addElement : Element → Parsed → Parsed
+addElement e (refused n p) = refused n p
+addElement e (accepted es) = accepted (e ∷ es)
+
+-- "the leftmost of 3 to 7 (an element's own fault before 7)". Row 7, "place of the element": "it takes the positions past 63", here past `most`. The
+-- elements from `place` on, after `used` positions; the first `skip` bytes belong to an element already read.
+abbrev pub elementsFrom : (most : ℕ) (fold : Bool) (skip place used : ℕ) → List ℕ → Parsed
+elementsFrom most fold skip place used [] = accepted []
+elementsFrom most fold (suc k) place used (c ∷ cs) = elementsFrom most fold k (suc place) used cs
+elementsFrom most fold zero place used (c ∷ cs) = elim (kindAt fold (c ∷ cs)) [
+  | bad n ↦ refused n place
+  | good kind n ↦ elim (leb (used + size kind) most) [
+    | false ↦ refused 7 place
+    | true ↦
+        let often = oftenAfter kind (drop n (c ∷ cs)) in
+        addElement (record { kind = kind; often = often }) (elementsFrom most fold (pred n + markBytes often) (suc place) (used + size kind) cs)
+  ]
+]
+
+-- Row 8, "place = rule length": "A rule is refused by 8 exactly when every position is optional."
+abbrev pub orEmpty : (fold : Bool) → List ℕ → Parsed → Parsed
+orEmpty fold rule (refused n p) = refused n p
+orEmpty fold rule (accepted es) = cond (eqb (shortest (positions fold es)) 0) (refused 8 (length rule)) (accepted es)
+
+-- Row 1, "place 0": "rule of length 0". Row 2, "place 255": "rule over 255 bytes". "1 and 2 come first, then the leftmost of 3 to 7 .., then 8." For any
+-- limits of a rule's length and positions, and for those of this paper.
+abbrev pub parseWithin : (longest most : ℕ) (fold : Bool) → List ℕ → Parsed
+parseWithin longest most fold rule =
+    cond (eqb (length rule) 0) (refused 1 0)
+    (cond (ltb longest (length rule)) (refused 2 longest)
+    (orEmpty fold rule (elementsFrom most fold 0 0 0 rule)))
+
+abbrev pub parse : (fold : Bool) → List ℕ → Parsed
+parse fold rule = parseWithin ruleLimit positionLimit fold rule
+
+-- The positions of an accepted rule; of a refused one, none.
+abbrev pub positionsBy : (fold : Bool) → Parsed → List Position
+positionsBy fold (refused n p) = []
+positionsBy fold (accepted es) = positions fold es
+
+abbrev pub rulePositions : (fold : Bool) → List ℕ → List Position
+rulePositions fold rule = positionsBy fold (parse fold rule)
+
+-- "Past the reported entries a list is untouched too": a lent list or buffer at exit, where it reports `entries`.
+abbrev pub overwrite : (lent entries : List ℕ) → List ℕ
+overwrite lent entries = entries ++ drop (length entries) lent

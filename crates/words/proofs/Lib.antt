@@ -1,0 +1,5 @@
+-- Laws of numbers and rows of bits, and the bridge from words to the model.
+pub mod Digits
+pub mod Closure
+pub mod Counting
+pub mod Bridge

@@ -1,0 +1,26 @@
+-- `words::flood` meets its contract: its operations are those of `flood`, and the library's wrapping difference is `wrapSub`. Assumes nothing.
+use mathlib.Core.Path.{_≡_, ap}
+use Prim.Native.Nat.{ℕ, _+_, _-_, _%_, _^_, _<_}
+use native.Mathlib.Omega.{arith}
+use borrow.Author.Needs.{needs}
+use lib.Bits.{bitAnd, bitOr, bitXor}
+use Rattle.words.specs.ForwardStep.{wrapSub, flood}
+use Rattle.words.proofs.flood.Statement.{statement}
+use Rattle.words.proofs.flood.Tie as tie
+
+-- the number that y added to wraps back to x
+wrapped : (x y r : ℕ) → y < 2 ^ 64 → r < 2 ^ 64 → (r + y) % 2 ^ 64 ≡ x → r ≡ wrapSub 64 x y
+wrapped x y r hy hr e = omega arith
+
+wrapping-sub-u64-requires : tie.Need-wrapping-sub-u64-requires
+wrapping-sub-u64-requires c κs = search needs
+
+returns : tie.Need-returns
+unfolding flood
+returns c =
+    let k = c .before .args in
+    ap (λ (n : ℕ). bitOr (k .d) (bitAnd (k .a) (bitXor ((2 ^ 64 - 1) - n) (bitOr (k .d) (k .f)))))
+    (wrapped (bitOr (k .d) (k .f)) (k .i) (c .wrapping-sub-u64 .result) (omega arith) (omega arith) (c .wrapping-sub-u64 .ensures))
+
+pub flood-spec : {M : Type 1} → statement M
+flood-spec = tie.close (tie.spec wrapping-sub-u64-requires returns)
