@@ -1,4 +1,5 @@
--- The seat-rule finder: document 01 as definitions, a file for each of its sections. ("Forward step" is in the crate `words`.)
+-- The seat-rule finder: document 01 as definitions, a file for each of its sections. ("Forward step" is in the crate `words`.) `Examples`
+-- are closed cases of them.
 pub mod Ascii
 pub mod Occurrence
 pub mod RuleText
@@ -7,3 +8,4 @@ pub mod References
 pub mod PlainScan
 pub mod WindowSearch
 pub mod MarkedTable
+pub mod Examples

@@ -1,8 +1,9 @@
--- Document 01, "Marked table": M1 to M12 as one list of cases, and what it is for them to hold. Assumes nothing.
+-- Document 01, "Marked table": M1 to M12 as one list of cases, what it is for them to hold, and that they do. Each text goes through the plain scan too.
+-- Assumes nothing.
 use mathlib.Core.Bool.{Bool, true, false, _&&_}
 use mathlib.Core.List.{List, [], _∷_}
 use Prim.Native.Nat.{ℕ, _+_}
-use lib.Dec.{eqb}
+use lib.Dec.{T, eqb}
 use lib.ListN.{length}
 use Rattle.model.specs.Ascii.{ascii}
 use Rattle.model.specs.Occurrence.{ends, starts}
@@ -69,3 +70,7 @@ table =
     ∷ decodes (ascii "&am") (ascii "&am")
     ∷ refuses (ascii "a?") 8 2  -- M12
     ∷ []
+
+-- The theorem: they all hold.
+pub marked-table : T (allHold table)
+marked-table = tt

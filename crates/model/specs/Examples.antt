@@ -1,5 +1,5 @@
 -- Sentences and edges of document 01 as closed cases of the definitions, by computing: rules that are refused or accepted, references, held tails, the
--- lister's example, a plan cut inside `&amp;`, and what is shown. (M1 to M12 are in `Marked`.) Assumes nothing.
+-- lister's example, a plan cut inside `&amp;`, and what is shown. (M1 to M12 are in `MarkedTable`.) Assumes nothing.
 use mathlib.Core.Path.{_≡_, refl}
 use mathlib.Core.Bool.{Bool, true, false, _&&_}
 use mathlib.Core.List.{List, [], _∷_, _++_}
