@@ -22,7 +22,7 @@ use Rattle.model.proofs.Scans.{opened, scannerFrom, scanner-is-plain}
 use Rattle.words.specs.Bit.{isSet, bit, count}
 use Rattle.words.specs.ForwardStep.{onByte, opening, topBit, shortest}
 use Rattle.words.specs.Masks.{maskFrom, mask, allMask, optionalMask, Encodes}
-use Rattle.words.proofs.Digits.{push-bit, and-bit, not-bit}
+use Rattle.words.proofs.Digits.{push-bit, and-bit, not-bit, none-bit}
 use Rattle.words.proofs.Closure.{closed, moved, step-bit, opening-bit}
 use Rattle.words.proofs.Counting.{count-suc, count-below, shortest-count}
 
@@ -74,11 +74,6 @@ pub top-bit : (n d : ℕ) → topBit n d ≡ bit d n
 unfolding topBit bit
 top-bit zero d = rw div-one (low-bit (d % 2) (omega arith))
 top-bit (suc n) d = rw (pow-succ', ← div-div-eq-div-mul) (top-bit n (d / 2))
-
-none-bit : (j : ℕ) → bit 0 j ≡ false
-unfolding bit
-none-bit zero = refl
-none-bit (suc j) = none-bit j
 
 one-first : (k : Bool) → bit (oneIf k) 0 ≡ k
 unfolding bit

@@ -6,6 +6,7 @@ use native.Mathlib.Nat.{div-add-mod', mod-lt, zero-lt-suc, pow-suc, mul-assoc, l
 use native.Mathlib.Omega.{arith}
 use native.Mathlib.Numerals.{add-one}
 use mathlib.Core.Bool.{Bool, true, false, not, _&&_, _||_}
+use lib.Dec.{eqb, eqb·zero-suc, eqb·suc-zero, eqb·suc-suc}
 use lib.Arith.{digits-div, digits-mod}
 use lib.Pow.{mod-pow-add}
 use lib.Bits.{bitAnd, bitOr, bitXor, and-step, or-step, xor-step, differ}
@@ -225,3 +226,26 @@ wrapSub-is w x y h = record { is = omega (arith, div-add-mod' (x + (2 ^ w - y)) 
 
 pub wrapSub-bit : (w x y j : ℕ) → y < 2 ^ w → j < w → bit (wrapSub w x y) j ≡ minus false (bit x) (bit y) j
 wrapSub-bit w x y j h hj = sub-bit w x y (wrapSub w x y) ((x + (2 ^ w - y)) / 2 ^ w) 1 false (wrapSub-is w x y h) j hj
+
+-- ---- no bits, and one
+
+pub none-bit : (j : ℕ) → bit 0 j ≡ false
+unfolding bit
+none-bit zero = refl
+none-bit (suc j) = none-bit j
+
+-- a number of w bits that has none set is 0
+pub no-bits : (w x : ℕ) → x < 2 ^ w → ((j : ℕ) → j < w → bit x j ≡ false) → x ≡ 0
+unfolding bit
+no-bits zero x l h = omega arith
+no-bits (suc w) x l h =
+    let r = no-bits w (x / 2) (below-half w l) (λ j q. h (suc j) (omega arith)) in
+    let e : x % 2 ≡ 0 = sym (low-oneIf x) ∙ ap oneIf (h 0 (omega arith)) in
+    omega arith
+
+pub power-bit : (k j : ℕ) → bit (2 ^ k) j ≡ eqb k j
+unfolding bit
+power-bit zero zero = refl
+power-bit zero (suc j) = none-bit j ∙ sym (eqb·zero-suc j)
+power-bit (suc k) zero = bit-zero {q = 2 ^ k} {b = false} record { is = let z : 2 ^ suc k ≡ 2 ^ k * 2 + 0 = omega arith in z } ∙ sym (eqb·suc-zero k)
+power-bit (suc k) (suc j) = bit-suc {q = 2 ^ k} {b = false} record { is = let z : 2 ^ suc k ≡ 2 ^ k * 2 + 0 = omega arith in z } j ∙ power-bit k j ∙ sym (eqb·suc-suc k j)
