@@ -13,16 +13,16 @@ use lib.Dec.{eqb, leb}
 use borrow.Author.Tests.{eq-eqb, ne-eqb}
 use Rattle.model.specs.RuleText as Model
 use Rattle.model.specs.RuleText.{noEnd, anEnd, closes, misfit, item, faulty, items, bad, good, class, endAt, itemAt, itemFrom, rangeFrom, rangeTo, itemsFrom, classOf, classAt, kindSet, someBelow}
-use Rattle.elements.specs.declared.spelling.Close.the-variants.{Wrong as NoClose, At}
-use Rattle.elements.specs.declared.spelling.Items.{Items}
-use Rattle.elements.specs.declared.spelling.Kind.the-variants.{Class}
-use Rattle.elements.specs.declared.spelling.Spelling.{Spelling}
-use Rattle.elements.specs.declared.spelling.Spelling.the-variants.{Spelt, Misspelt}
-use Rattle.elements.specs.declared.spelling.Spelled.{Spelled}
-use Rattle.elements.specs.Sets.{addRanges, none, widen, turn, isEmpty}
+use Rattle.elements.specs.declared.Close.the-variants.{Wrong as NoClose, At}
+use Rattle.elements.specs.declared.Items.{Items}
+use Rattle.elements.specs.declared.Kind.the-variants.{Class}
+use Rattle.elements.specs.declared.Spelling.{Spelling}
+use Rattle.elements.specs.declared.Spelling.the-variants.{Spelt, Misspelt}
+use Rattle.elements.specs.declared.Spelled.{Spelled}
+use Rattle.byte_sets.specs.Sets.{addRanges, none, widen, turn, isEmpty}
 use Rattle.elements.specs.Reading.{collect, ReadsItems, setOf, misspelt, spelledBy, SpellingMoves, ReadsClass, ReadsBracket}
 use Rattle.elements.proofs.Ends.{past-end, within}
-use Rattle.elements.proofs.SetLaws.{class-four, class-member, empty-none, full-some}
+use Rattle.byte_sets.proofs.SetLaws.{class-four, class-member, empty-none, full-some}
 
 clash : {A : Type 0} → _≡_ {A = ℕ} 0 1 → A
 clash z = absurd (omega arith)

@@ -9,13 +9,13 @@ use lib.ListN.{length, drop}
 use borrow.Author.Tests.{le-leb, lt-leb}
 use Rattle.model.specs.RuleText as Model
 use Rattle.model.specs.RuleText.{bad, good, byte, any, class, gap, kindAt, once, optional, repeatable, both, oftenAfter, markBytes, positionLimit}
-use Rattle.elements.specs.declared.spelling.Kind.{Kind}
-use Rattle.elements.specs.declared.spelling.Spelling.{Spelling}
-use Rattle.elements.specs.declared.spelling.Spelling.the-variants.{Spelt, Misspelt}
-use Rattle.elements.specs.declared.spelling.Spelled.{Spelled}
-use Rattle.elements.specs.declared.spelling.Often.{Often}
-use Rattle.elements.specs.declared.spelling.Reading.the-variants.{Got}
-use Rattle.elements.specs.declared.spelling.Read.{Read}
+use Rattle.elements.specs.declared.Kind.{Kind}
+use Rattle.elements.specs.declared.Spelling.{Spelling}
+use Rattle.elements.specs.declared.Spelling.the-variants.{Spelt, Misspelt}
+use Rattle.elements.specs.declared.Spelled.{Spelled}
+use Rattle.elements.specs.declared.Often.{Often}
+use Rattle.elements.specs.declared.Reading.the-variants.{Got}
+use Rattle.elements.specs.declared.Read.{Read}
 use Rattle.elements.specs.Reading.{KindFits, kindOf, setOf, spelledBy, ReadsKind, oftenOf, markAt, oftenBy, bytesOf, sizeOf, noElement, readBy, ReadsElement}
 use Rattle.elements.proofs.Ends.{past-end}
 

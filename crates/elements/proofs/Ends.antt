@@ -12,13 +12,13 @@ use lib.Seq.{drop-cons, drop-drop}
 use borrow.Author.Tests.{eq-eqb, ne-eqb, le-leb, lt-leb}
 use Rattle.model.specs.RuleText as Model
 use Rattle.model.specs.RuleText.{noEnd, anEnd, closes, misfit, item, faulty, items, endAt, mayEscape, itemAt, itemFrom, rangeFrom, rangeTo, itemsFrom}
-use Rattle.elements.specs.declared.spelling.End.{End}
-use Rattle.elements.specs.declared.spelling.End.the-variants.{Byte, Wrong}
-use Rattle.elements.specs.declared.spelling.Item.{Item}
-use Rattle.elements.specs.declared.spelling.Item.the-variants.{Wrong as NoItem, Range, Close}
-use Rattle.elements.specs.declared.spelling.Close.the-variants.{Wrong as NoClose, At}
-use Rattle.elements.specs.declared.spelling.Items.{Items}
-use Rattle.elements.specs.Sets.{addRanges, addRange, none}
+use Rattle.elements.specs.declared.End.{End}
+use Rattle.elements.specs.declared.End.the-variants.{Byte, Wrong}
+use Rattle.elements.specs.declared.Item.{Item}
+use Rattle.elements.specs.declared.Item.the-variants.{Wrong as NoItem, Range, Close}
+use Rattle.elements.specs.declared.Close.the-variants.{Wrong as NoClose, At}
+use Rattle.elements.specs.declared.Items.{Items}
+use Rattle.byte_sets.specs.Sets.{addRanges, addRange, none}
 use Rattle.elements.specs.Reading.{endOf, ReadsEnd, ReadsEscape, itemOf, ReadsItem, collect, ReadsItems}
 
 -- ---- `escapable`

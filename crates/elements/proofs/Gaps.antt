@@ -13,12 +13,12 @@ use lib.Dec.{eqb, leb}
 use borrow.Author.Tests.{eq-eqb, ne-eqb, lt-ltb, le-ltb, le-leb, lt-leb}
 use Rattle.model.specs.RuleText as Model
 use Rattle.model.specs.RuleText.{bad, good, gap, boundAt, isDecimal, startsWith, gapAt}
-use Rattle.elements.specs.declared.spelling.Bound.{Bound}
-use Rattle.elements.specs.declared.spelling.Kind.{Kind}
-use Rattle.elements.specs.declared.spelling.Kind.the-variants.{Gap}
-use Rattle.elements.specs.declared.spelling.Spelling.the-variants.{Spelt}
-use Rattle.elements.specs.declared.spelling.Spelled.{Spelled}
-use Rattle.elements.specs.Sets.{none}
+use Rattle.elements.specs.declared.Bound.{Bound}
+use Rattle.elements.specs.declared.Kind.{Kind}
+use Rattle.elements.specs.declared.Kind.the-variants.{Gap}
+use Rattle.elements.specs.declared.Spelling.the-variants.{Spelt}
+use Rattle.elements.specs.declared.Spelled.{Spelled}
+use Rattle.byte_sets.specs.Sets.{none}
 use Rattle.elements.specs.Reading.{misspelt, spelledBy, digitOf, ReadsDigit, boundOf, ReadsBound, ReadsGap}
 use Rattle.elements.proofs.Ends.{past-end, within}
 

@@ -10,15 +10,15 @@ use lib.Seq.{drop-cons}
 use borrow.Author.Tests.{eq-eqb, ne-eqb}
 use Rattle.model.specs.RuleText as Model
 use Rattle.model.specs.RuleText.{noEnd, anEnd, bad, good, byte, escapedEnd, escapeAt, kindAt, oftenAt}
-use Rattle.elements.specs.declared.spelling.Kind.{Kind}
-use Rattle.elements.specs.declared.spelling.Kind.the-variants.{Byte as AByte, Any, Class}
-use Rattle.elements.specs.declared.spelling.Spelling.the-variants.{Spelt}
-use Rattle.elements.specs.declared.spelling.Spelled.{Spelled}
-use Rattle.elements.specs.declared.spelling.End.{End}
-use Rattle.elements.specs.declared.spelling.End.the-variants.{Byte, Wrong}
-use Rattle.elements.specs.declared.spelling.Often.{Often}
-use Rattle.elements.specs.declared.spelling.Often.the-variants.{Once, Optional, Repeatable, Both}
-use Rattle.elements.specs.Sets.{none}
+use Rattle.elements.specs.declared.Kind.{Kind}
+use Rattle.elements.specs.declared.Kind.the-variants.{Byte as AByte, Any, Class}
+use Rattle.elements.specs.declared.Spelling.the-variants.{Spelt}
+use Rattle.elements.specs.declared.Spelled.{Spelled}
+use Rattle.elements.specs.declared.End.{End}
+use Rattle.elements.specs.declared.End.the-variants.{Byte, Wrong}
+use Rattle.elements.specs.declared.Often.{Often}
+use Rattle.elements.specs.declared.Often.the-variants.{Once, Optional, Repeatable, Both}
+use Rattle.byte_sets.specs.Sets.{none}
 use Rattle.elements.specs.Reading.{misspelt, spelledBy, ReadsBracket, ReadsGap, plainOf, ReadsKind, ReadsEscape, oftenOf, markAt, oftenBy}
 use Rattle.elements.proofs.Ends.{end-found, end-missed}
 use Rattle.elements.proofs.Gaps.{byte-at, gap-same}

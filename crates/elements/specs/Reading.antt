@@ -1,4 +1,4 @@
--- What the readers of src/spelling.rt find: the model's reading of the bytes from an index on, with the place after it instead of a
+-- What the readers of src/lib.rt find: the model's reading of the bytes from an index on, with the place after it instead of a
 -- count of bytes; and that a reader moves on and stays within the rule. Assumes nothing.
 use mathlib.Core.Path.{_≡_}
 use mathlib.Core.Bool.{Bool, false, cond}
@@ -8,26 +8,26 @@ use lib.ListN.{length, drop}
 use lib.Dec.{leb, ltb}
 use Rattle.model.specs.RuleText as Model
 use Rattle.model.specs.RuleText.{noEnd, anEnd, closes, misfit, item, faulty, items, bad, good, byte, any, class, gap, once, optional, repeatable, both, endAt, escapedEnd, itemAt, itemsFrom, boundAt, classOf, kindAt, oftenAt, oftenAfter, markBytes, positionLimit}
-use Rattle.elements.specs.declared.spelling.End.{End}
-use Rattle.elements.specs.declared.spelling.End.the-variants.{Byte, Wrong}
-use Rattle.elements.specs.declared.spelling.Item.{Item}
-use Rattle.elements.specs.declared.spelling.Item.the-variants.{Wrong as NoItem, Range, Close}
-use Rattle.elements.specs.declared.spelling.Close.the-variants.{Wrong as NoClose, At}
-use Rattle.elements.specs.declared.spelling.Items.{Items}
-use Rattle.elements.specs.declared.spelling.Bound.{Bound}
-use Rattle.elements.specs.declared.spelling.Kind.{Kind}
-use Rattle.elements.specs.declared.spelling.Kind.the-variants.{Byte as AByte, Any, Class, Gap}
-use Rattle.elements.specs.declared.spelling.Spelling.{Spelling}
-use Rattle.elements.specs.declared.spelling.Spelling.the-variants.{Spelt, Misspelt}
-use Rattle.elements.specs.declared.spelling.Spelled.{Spelled}
-use Rattle.elements.specs.declared.spelling.Element.{Element}
-use Rattle.elements.specs.declared.spelling.Reading.{Reading}
-use Rattle.elements.specs.declared.spelling.Reading.the-variants.{Got, Refused}
-use Rattle.elements.specs.declared.spelling.Often.{Often}
-use Rattle.elements.specs.declared.spelling.Often.the-variants.{Once, Optional, Repeatable, Both}
-use Rattle.elements.specs.declared.spelling.Read.{Read}
-use Rattle.elements.specs.declared.spelling.Close.{Close as Closing}
-use Rattle.elements.specs.Sets.{addRanges, none, widen, turn}
+use Rattle.elements.specs.declared.End.{End}
+use Rattle.elements.specs.declared.End.the-variants.{Byte, Wrong}
+use Rattle.elements.specs.declared.Item.{Item}
+use Rattle.elements.specs.declared.Item.the-variants.{Wrong as NoItem, Range, Close}
+use Rattle.elements.specs.declared.Close.the-variants.{Wrong as NoClose, At}
+use Rattle.elements.specs.declared.Items.{Items}
+use Rattle.elements.specs.declared.Bound.{Bound}
+use Rattle.elements.specs.declared.Kind.{Kind}
+use Rattle.elements.specs.declared.Kind.the-variants.{Byte as AByte, Any, Class, Gap}
+use Rattle.elements.specs.declared.Spelling.{Spelling}
+use Rattle.elements.specs.declared.Spelling.the-variants.{Spelt, Misspelt}
+use Rattle.elements.specs.declared.Spelled.{Spelled}
+use Rattle.elements.specs.declared.Element.{Element}
+use Rattle.elements.specs.declared.Reading.{Reading}
+use Rattle.elements.specs.declared.Reading.the-variants.{Got, Refused}
+use Rattle.elements.specs.declared.Often.{Often}
+use Rattle.elements.specs.declared.Often.the-variants.{Once, Optional, Repeatable, Both}
+use Rattle.elements.specs.declared.Read.{Read}
+use Rattle.elements.specs.declared.Close.{Close as Closing}
+use Rattle.byte_sets.specs.Sets.{addRanges, none, widen, turn}
 
 -- ---- an end
 

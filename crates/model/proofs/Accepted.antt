@@ -118,14 +118,14 @@ accepted-inj e = cc
 not-refused : {A : Type 0} {m p : ℕ} {es : List Element} → refused m p ≡ accepted es → A
 not-refused e = let z : _≡_ {A = ℕ} 0 1 = cc in absurd (omega arith)
 
-elements-bad : (most : ℕ) (fold : Bool) (c : ℕ) (cs : List ℕ) (place used n : ℕ) → kindAt fold (c ∷ cs) ≡ bad n → elementsFrom most fold zero place used (c ∷ cs) ≡ refused n place
+pub elements-bad : (most : ℕ) (fold : Bool) (c : ℕ) (cs : List ℕ) (place used n : ℕ) → kindAt fold (c ∷ cs) ≡ bad n → elementsFrom most fold zero place used (c ∷ cs) ≡ refused n place
 elements-bad most fold c cs place used n q = rw (q, elementsFrom)
 
-elements-over : (most : ℕ) (fold : Bool) (c : ℕ) (cs : List ℕ) (place used n : ℕ) (k : Kind) → kindAt fold (c ∷ cs) ≡ good k n → leb (used + size k) most ≡ false
+pub elements-over : (most : ℕ) (fold : Bool) (c : ℕ) (cs : List ℕ) (place used n : ℕ) (k : Kind) → kindAt fold (c ∷ cs) ≡ good k n → leb (used + size k) most ≡ false
     → elementsFrom most fold zero place used (c ∷ cs) ≡ refused 7 place
 elements-over most fold c cs place used n k q r = rw (q, r, elementsFrom)
 
-elements-good : (most : ℕ) (fold : Bool) (c : ℕ) (cs : List ℕ) (place used n : ℕ) (k : Kind) → kindAt fold (c ∷ cs) ≡ good k n → leb (used + size k) most ≡ true
+pub elements-good : (most : ℕ) (fold : Bool) (c : ℕ) (cs : List ℕ) (place used n : ℕ) (k : Kind) → kindAt fold (c ∷ cs) ≡ good k n → leb (used + size k) most ≡ true
     → elementsFrom most fold zero place used (c ∷ cs)
     ≡ addElement (record { kind = k; often = oftenAfter k (drop n (c ∷ cs)) })
     (elementsFrom most fold (pred n + markBytes (oftenAfter k (drop n (c ∷ cs)))) (suc place) (used + size k) cs)

@@ -5,12 +5,12 @@ use mathlib.Core.Path.{_≡_, refl, sym, ap, ap₂, subst, _∙_}
 use mathlib.Core.Bool.{Bool, true, false, not, _&&_, _||_, or-false, and-false, and-assoc, and-comm}
 use mathlib.Core.List.{List, [], _∷_, _++_, reverse}
 use Prim.Native.Nat.{ℕ, zero, suc, _+_, _-_, _*_, _/_, _%_, _^_, _≤_, _<_}
-use native.Mathlib.Nat.{le-of-suc-le-suc, not-suc-le-zero, div-one, pow-succ', div-div-eq-div-mul, pow-suc}
+use native.Mathlib.Nat.{div-one, pow-succ', div-div-eq-div-mul}
 use native.Mathlib.Omega.{arith}
 use lib.Bits.{bitAnd}
 use lib.Dec.{T, eqb}
 use lib.ListN.{length}
-use lib.Pow.{pow-mono, pow-pos}
+use lib.Pow.{pow-pos}
 use Rattle.model.specs.Occurrence.{Position, oneIf, isEnd, isOccurrence}
 use Rattle.model.specs.Occurrence as Occurrence
 use Rattle.model.specs.PlainScan.{Call, nothingKept, scanFrom}
@@ -24,44 +24,8 @@ use Rattle.words.specs.ForwardStep.{onByte, opening, topBit, shortest}
 use Rattle.words.specs.Masks.{maskFrom, mask, allMask, optionalMask, Encodes}
 use Rattle.words.proofs.Digits.{push-bit, and-bit, not-bit, none-bit}
 use Rattle.words.proofs.Closure.{closed, moved, step-bit, opening-bit}
+use Rattle.words.proofs.MaskLaws.{mask-up, mask-low, mask-bit, mask-fits}
 use Rattle.words.proofs.Counting.{count-suc, count-below, shortest-count}
-
--- ---- the bits of a mask
-
-mask-nth : (f : Position → Bool) (ps : List Position) (i : ℕ) → i < length ps → bit (maskFrom f ps) i ≡ f (nth ps i)
-unfolding maskFrom
-mask-nth f [] i h = absurd (not-suc-le-zero h)
-mask-nth f (p ∷ ps) zero h = push-bit (f p) (maskFrom f ps) 0
-mask-nth f (p ∷ ps) (suc i) h = push-bit (f p) (maskFrom f ps) (suc i) ∙ mask-nth f ps i (le-of-suc-le-suc h)
-
-module _ (f : Position → Bool) (ps : List Position) where
-  up : (j : ℕ) → bit (mask f ps) j ≡ bit (maskFrom f ps * 2 + 0) j
-  up j = let e : maskFrom f ps * 2 ≡ maskFrom f ps * 2 + 0 = omega arith in ap (λ (n : ℕ). bit n j) e
-
-  mask-up : (j : ℕ) → bit (mask f ps) (suc j) ≡ bit (maskFrom f ps) j
-  mask-up j = up (suc j) ∙ push-bit false (maskFrom f ps) (suc j)
-
-  pub mask-low : bit (mask f ps) 0 ≡ false
-  mask-low = up 0 ∙ push-bit false (maskFrom f ps) 0
-
-  pub mask-bit : (i : ℕ) → i < length ps → bit (mask f ps) (suc i) ≡ f (nth ps i)
-  mask-bit i h = mask-up i ∙ mask-nth f ps i h
-
-mask-small : (f : Position → Bool) (ps : List Position) → maskFrom f ps < 2 ^ length ps
-unfolding maskFrom
-mask-small f [] = omega arith
-mask-small f (p ∷ ps) = go (f p) (mask-small f ps)
-  where
-    go : (b : Bool) → maskFrom f ps < 2 ^ length ps → maskFrom f ps * 2 + oneIf b < 2 ^ suc (length ps)
-    go true h = omega arith
-    go false h = omega arith
-
-pub mask-fits : (w : ℕ) (f : Position → Bool) (ps : List Position) → length ps < w → mask f ps < 2 ^ w
-mask-fits w f ps h =
-    let a = mask-small f ps in
-    let b : 2 ^ suc (length ps) ≤ 2 ^ w = pow-mono h in
-    let c : 2 ^ suc (length ps) ≡ 2 ^ length ps * 2 = pow-suc 2 (length ps) in
-    omega arith
 
 -- ---- the top bit, as the code tests it
 

@@ -2,4 +2,5 @@
 pub mod Digits
 pub mod Closure
 pub mod Counting
+pub mod MaskLaws
 pub mod Bridge

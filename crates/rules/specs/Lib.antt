@@ -1,0 +1,4 @@
+-- What the contracts cite.
+pub mod Gathering
+pub mod Preparing
+pub mod Tables
