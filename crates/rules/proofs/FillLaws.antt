@@ -229,7 +229,7 @@ module _ (f : Bool) (s : List ℕ) (all : List Position) (reversed : Bool) (tota
 
   pub fill-over : length s ≤ at → (flag : ℕ) → all ≡ rulePositions (foldFlag flag) s → Filled flag s reversed table
   unfolding maskFrom
-  fill-over h flag ea = record { is = ext-getD 0 table (tableOf (rowOf reversed (rulePositions (foldFlag flag) s))) (g .long ∙ sym (long-entries (rowOf reversed (rulePositions (foldFlag flag) s)) 256 0)) same }
+  fill-over h flag ea = record { long = g .long; is = ext-getD 0 table (tableOf (rowOf reversed (rulePositions (foldFlag flag) s))) (g .long ∙ sym (long-entries (rowOf reversed (rulePositions (foldFlag flag) s)) 256 0)) same }
     where
       none : g .left ≡ []
       none = accepted-inj (sym (g .rest) ∙ elements-end f used s at h)

@@ -83,6 +83,7 @@ pub record Fillable (flag : ℕ) (rule : List ℕ) (total : ℕ) (table : List �
   pub long : length table ≡ 256
 
 pub record Filled (flag : ℕ) (rule : List ℕ) (reversed : Bool) (table : List ℕ) : Type 0 where
+  pub long : length table ≡ 256
   pub is : table ≡ tableOf (rowOf reversed (rulePositions (foldFlag flag) rule))
 
 -- ---- a mask for the reversed rule: its positions' bits, from the last to the first
