@@ -1,0 +1,37 @@
+-- Document 01, "Forward step", over some decoded bytes: the state after them, and the ends among them, at any table of 256 words and any masks. Assumes
+-- nothing.
+use mathlib.Core.Path.{_≡_}
+use mathlib.Core.List.{List, [], _∷_}
+use Prim.Native.Nat.{ℕ, _+_, _≤_}
+use lib.Bits.{bitAnd}
+use lib.ListN.{length, getD}
+use lib.Seq.{sets}
+use Rattle.model.specs.Occurrence.{consIf}
+use Rattle.words.specs.ForwardStep.{advance, blockStarts, blockEnds, topBit}
+use Rattle.stepping.specs.declared.Masks.{Masks}
+use Rattle.stepping.specs.declared.Ran.{Ran}
+
+-- One step at a table entry b.
+unfoldable pub stepN : Masks → (d b : ℕ) → ℕ
+stepN m d b = advance 64 d b (bitAnd b (m .repeats)) 1 (m .optional) (blockStarts 64 (m .optional)) (blockEnds 64 (m .optional))
+
+-- The step on byte c, with B = t.
+abbrev pub stepOn : (t : List ℕ) → Masks → (d c : ℕ) → ℕ
+stepOn t m d c = stepN m d (getD t c 0)
+
+-- The state after all the bytes.
+unfoldable pub stateAfter : (t : List ℕ) → Masks → (d : ℕ) → List ℕ → ℕ
+stateAfter t m d [] = d
+stateAfter t m d (c ∷ cs) = stateAfter t m (stepOn t m d c) cs
+
+-- The ends among the bytes; `at` bytes stand before them.
+unfoldable pub endsIn : (t : List ℕ) → Masks → (d at : ℕ) → List ℕ → List ℕ
+endsIn t m d at [] = []
+endsIn t m d at (c ∷ cs) = consIf (topBit (m .top) (stepOn t m d c)) (at + 1) (endsIn t m (stepOn t m d c) (at + 1) cs)
+
+-- `run`: its result, and the lent list at exit
+pub record Scanned (t : List ℕ) (m : Masks) (d at : ℕ) (text ends : List ℕ) (r : Ran) (ends′ : List ℕ) : Type 0 where
+  pub state : r .d ≡ stateAfter t m d text
+  pub count : r .count ≡ length (endsIn t m d at text)
+  pub few : r .count ≤ length text
+  pub list : ends′ ≡ sets ends 0 (endsIn t m d at text)
