@@ -9,8 +9,8 @@ use lib.ListN.{length, replicate}
 use Rattle.model.specs.Ascii.{ascii}
 use Rattle.model.specs.Occurrence.{Position, shortest, ends, starts}
 use Rattle.model.specs.RuleText.{foldFlag, kindSet, class, byte, gap, once, optional, repeatable}
-use Rattle.model.specs.NumberedAnswers.{accepted, parse, rulePositions, overwrite}
-use Rattle.model.specs.References.{formLimit, decode, heldTail}
+use Rattle.model.specs.NumberedAnswers.{accepted, parse, rulePositions, wholeRefusal, overwrite}
+use Rattle.model.specs.References.{formLimit, utf8, decode, heldTail}
 use Rattle.model.specs.PlainScan.{feed, finish, refused, reported, plainScan, reportedEnds}
 use Rattle.model.specs.WindowSearch.{windows, shown}
 use Rattle.model.specs.MarkedTable.{same, isRefused}
@@ -138,6 +138,7 @@ references : T (rawHolds (
     ∷ holds (ascii "&ax") []
     ∷ []
     ))
+unfolding utf8
 references = tt
 
 -- ---- the lister's example
@@ -152,12 +153,14 @@ abbrev plan : List ℕ
 plan = decode formLimit (ascii "Row A&amp;B 12;")
 
 lister : (length row ≡ 9) × (shortest row ≡ 9) × (ends row plan ≡ 9 ∷ 10 ∷ []) × (starts row plan ≡ 0 ∷ []) × (length (windows row plan) ≡ 1)
+unfolding utf8
 lister = (refl, refl, refl, refl, refl)
 
 -- "Forgetting held bytes at a cut inside `&amp;`": the plan in two pieces, cut there, with a feed that is refused for its short list between them, an
 -- empty piece, and calls after the finish.
 cut-plan : plainScan 0 rule (feed (ascii "Row A&a") 16 ∷ feed (ascii "x") 9 ∷ feed [] 9 ∷ feed (ascii "mp;B 12;") 17 ∷ finish 8 ∷ finish 9 ∷ feed [] 9 ∷ finish 9 ∷ [])
     ≡ reported [] ∷ refused 9 ∷ reported [] ∷ reported (9 ∷ 10 ∷ []) ∷ refused 9 ∷ reported [] ∷ refused 12 ∷ refused 12 ∷ []
+unfolding utf8
 cut-plan = refl
 
 -- A feed of one byte that reports ten ends, and a finish that lets nine through.
@@ -169,12 +172,18 @@ ten-ends : plainScan 0 (ascii ".") (feed (ascii "&#1234567") 18 ∷ feed (ascii 
     ∷ []
 ten-ends = refl
 
+-- ---- whole-text calls: 10 before 9, and the edges of both
+
+wholes : (wholeRefusal 5 5 ≡ 0) × (wholeRefusal 5 4 ≡ 9) × (wholeRefusal 0 0 ≡ 0) × (wholeRefusal 4294967295 4294967295 ≡ 0) × (wholeRefusal 4294967296 0 ≡ 10)
+wholes = (refl, refl, refl, refl, refl)
+
 -- ---- what is shown, and a lent list at exit
 
 shows : (shown 0 rule plan 0 ≡ record { from = 0; to = 9 })
     × (shown 0 rule plan 1 ≡ record { from = 11; to = 11 })
     × (shown 0 rule plan 12 ≡ record { from = 11; to = 11 })
     × (shown 0 (ascii "a?") plan 0 ≡ record { from = 11; to = 11 })
+unfolding utf8
 shows = (refl, refl, refl, refl)
 
 lent : overwrite (7 ∷ 7 ∷ 7 ∷ []) (1 ∷ 2 ∷ []) ≡ 1 ∷ 2 ∷ 7 ∷ []
