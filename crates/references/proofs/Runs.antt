@@ -7,8 +7,8 @@ use native.Mathlib.Nat.{zero-add}
 use native.Mathlib.Numerals.{add-one}
 use native.Mathlib.Omega.{arith}
 use lib.Dec.{T, eqb}
-use lib.ListN.{length, take, drop, getD, set, length-set, length-drop}
-use lib.Seq.{sets, length-sets, take-suc, take-add, drop-cons, getD-drop, length-take-le}
+use lib.ListN.{drop-of-length-le, length, take, drop, getD, set, length-set, length-drop}
+use lib.Seq.{take-all, take-suc-set, sets, length-sets, take-suc, take-add, drop-cons, getD-drop, length-take-le}
 use borrow.Author.Tests.{ne-eqb}
 use Rattle.model.specs.Occurrence.{all}
 use Rattle.model.specs.References.{notAmp}
@@ -81,32 +81,64 @@ module _ (s : List ℕ) where
     pub run-ends : length s ≤ i → RunIs s i
     run-ends h = record { fits = g .fits; plain = g .plain; stops = λ l. absurd (omega arith) }
 
--- ---- `copy_block`
+-- ---- `block_at`
 
-pub record Copying (raw : List ℕ) (i : ℕ) (out₀ out : List ℕ) (j : ℕ) : Type 0 where
+pub record Filling (s : List ℕ) (i : ℕ) (block : List ℕ) (j : ℕ) : Type 0 where
   pub few : j ≤ 32
-  pub long : length out ≡ length out₀
-  pub list : sets out (i + j) (take (32 - j) (drop (i + j) raw)) ≡ sets out₀ i (take 32 (drop i raw))
+  pub long : length block ≡ 32
+  pub is : take j block ≡ take j (drop i s)
 
-module _ (raw : List ℕ) (i : ℕ) (out₀ : List ℕ) where
-  pub copy-begun : Copying raw i out₀ out₀ 0
-  copy-begun = let z : i + 0 ≡ i = omega arith in record { few = omega arith; long = refl; list = rw z }
+module _ (s : List ℕ) (i : ℕ) where
+  pub fill-begun : (block : List ℕ) → length block ≡ 32 → Filling s i block 0
+  fill-begun block e = record { few = omega arith; long = e; is = refl }
 
-  module _ {out : List ℕ} {j : ℕ} (g : Copying raw i out₀ out j) where
-    pub copy-on : j < 32 → i + 32 ≤ length raw → Copying raw i out₀ (set out (i + j) (getD raw (i + j) 0)) (j + 1)
-    copy-on h l =
-        let n : i + (j + 1) ≡ suc (i + j) = omega arith in
-        let m : 32 - j ≡ suc (32 - (j + 1)) = omega arith in
-        let e : take (32 - j) (drop (i + j) raw) ≡ getD raw (i + j) 0 ∷ take (32 - (j + 1)) (drop (suc (i + j)) raw) =
-        ap (λ (k : ℕ). take k (drop (i + j) raw)) m ∙ ap (take (suc (32 - (j + 1)))) (drop-cons raw (i + j) 0 (omega arith)) in
+  module _ {block : List ℕ} {j : ℕ} (g : Filling s i block j) where
+    pub fill-on : j < 32 → i + 32 ≤ length s → Filling s i (set block j (getD s (i + j) 0)) (j + 1)
+    fill-on h l =
+        let k = g .long in
         record {
           few = omega arith;
-          long = length-set out (i + j) (getD raw (i + j) 0) ∙ g .long;
-          list = rw n (sym (ap (sets out (i + j)) e) ∙ g .list);
+          long = length-set block j (getD s (i + j) 0) ∙ k;
+          is =
+              rw (add-one j)
+              (take-suc-set block j (getD s (i + j) 0) (omega arith)
+              ∙ ap (λ (l : List ℕ). l ++ (getD s (i + j) 0 ∷ [])) (g .is)
+              ∙ sym (take-suc (drop i s) j 0 (omega (arith, length-drop i s)) ∙ ap (λ (c : ℕ). take j (drop i s) ++ (c ∷ [])) (getD-drop i s j 0)));
         }
 
-    pub copy-over : 32 ≤ j → out ≡ sets out₀ i (take 32 (drop i raw))
-    copy-over h = let z : 32 - j ≡ 0 = omega arith in rw z at (g .list)
+    pub filled : 32 ≤ j → block ≡ take 32 (drop i s)
+    filled h =
+        let f = g .few in
+        let k = g .long in
+        let e : j ≡ 32 = omega arith in
+        sym (take-all 32 block (omega arith)) ∙ rw e at (g .is)
+
+-- ---- `copy_block`
+
+pub record Copying (block : List ℕ) (i : ℕ) (out₀ out : List ℕ) (j : ℕ) : Type 0 where
+  pub few : j ≤ 32
+  pub long : length out ≡ length out₀
+  pub list : sets out (i + j) (drop j block) ≡ sets out₀ i block
+
+module _ (block : List ℕ) (i : ℕ) (out₀ : List ℕ) where
+  pub copy-begun : Copying block i out₀ out₀ 0
+  copy-begun = let z : i + 0 ≡ i = omega arith in record { few = omega arith; long = refl; list = rw z }
+
+  module _ {out : List ℕ} {j : ℕ} (g : Copying block i out₀ out j) where
+    pub copy-on : j < 32 → length block ≡ 32 → Copying block i out₀ (set out (i + j) (getD block j 0)) (j + 1)
+    copy-on h l =
+        let n : i + (j + 1) ≡ suc (i + j) = omega arith in
+        record {
+          few = omega arith;
+          long = length-set out (i + j) (getD block j 0) ∙ g .long;
+          list = rw (n, add-one j) (sym (ap (sets out (i + j)) (drop-cons block j 0 (omega arith))) ∙ g .list);
+        }
+
+    pub copy-over : 32 ≤ j → length block ≡ 32 → (part : List ℕ) → block ≡ part → out ≡ sets out₀ i part
+    copy-over h l part e =
+        let m : length block ≤ j = omega arith in
+        let d : drop j block ≡ [] = drop-of-length-le block m in
+        (rw d at (g .list)) ∙ ap (sets out₀ i) e
 
 -- ---- `copy_blocks`, `copy_run`
 

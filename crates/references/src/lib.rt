@@ -311,15 +311,31 @@ pub fn run_length(s: &[u8]) -> usize
     i
 }
 
-// Copies the 32 bytes from i on to the same place of `out`.
+// The 32 bytes from i on.
+fn block_at(s: &[u8], i: usize) -> [u8; 32]
+    requires { ⌜ i + 32 ≤ length (now s) ⌝ }
+    ensures { λ r. ⌜ r ≡ take 32 (drop i (now (s .entry))) ⌝ }
+{
+    let mut block = [0u8; 32];
+    let mut j = 0;
+    while j < 32 {
+        block[j] = s[i + j];
+        j += 1;
+    }
+    block
+}
+
+// Copies the 32 bytes from i on to the same place of `out`. All are read before the first is written,
+// so that the compiler need not ask whether the two slices overlap.
 fn copy_block(raw: &[u8], i: usize, out: &mut [u8])
     requires { ⌜ i + 32 ≤ length (now raw) ⌝ }
     requires { ⌜ i + 32 ≤ length (now out) ⌝ }
     ensures { λ r. ⌜ now (out .exit) ≡ sets (now (out .entry)) i (take 32 (drop i (now (raw .entry)))) ⌝ }
 {
+    let block = block_at(raw, i);
     let mut j = 0;
     while j < 32 {
-        out[i + j] = raw[i + j];
+        out[i + j] = block[j];
         j += 1;
     }
 }
