@@ -380,19 +380,13 @@ pub struct Place {
     pub written: usize,
 }
 
-// One run of plain bytes, or one reference, or one `&` that begins none.
-fn token(raw: &[u8], i: usize, out: &mut [u8], at: usize) -> Place
+// One reference, or one `&` that begins none.
+fn amp_token(raw: &[u8], i: usize, out: &mut [u8], at: usize) -> Place
     requires { ⌜ i < length (now raw) ⌝ }
     requires { ⌜ at + length (now raw) ≤ length (now out) + i ⌝ }
+    requires { ⌜ getD (now raw) i 0 ≡ 38 ⌝ }
     ensures { λ r. ⌜ TokenIs (now (raw .entry)) i (now (out .entry)) at r (now (out .exit)) ⌝ }
 {
-    if raw[i] != b'&' {
-        let n = copy_run(&raw[i..], &mut out[at..]);
-        return Place {
-            read: i + n,
-            written: at + n,
-        };
-    }
     let found = read_reference(&raw[i..]);
     match found {
         Reference::Code(code, k) => {
@@ -416,6 +410,22 @@ fn token(raw: &[u8], i: usize, out: &mut [u8], at: usize) -> Place
                 written: at + 1,
             };
         }
+    }
+}
+
+// One run of plain bytes, or one reference, or one `&` that begins none.
+fn token(raw: &[u8], i: usize, out: &mut [u8], at: usize) -> Place
+    requires { ⌜ i < length (now raw) ⌝ }
+    requires { ⌜ at + length (now raw) ≤ length (now out) + i ⌝ }
+    ensures { λ r. ⌜ TokenIs (now (raw .entry)) i (now (out .entry)) at r (now (out .exit)) ⌝ }
+{
+    if raw[i] == b'&' {
+        return amp_token(raw, i, out, at);
+    }
+    let n = copy_run(&raw[i..], &mut out[at..]);
+    Place {
+        read: i + n,
+        written: at + n,
     }
 }
 
