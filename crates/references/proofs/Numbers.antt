@@ -1,6 +1,6 @@
 -- The laws of the reader's parts: fixed forms, digits, code points, a number's digits up to its `;`. On plain values. Assumes nothing.
 use mathlib.Core.Path.{_≡_, refl, sym, ap, subst, _∙_}
-use mathlib.Core.Bool.{Bool, true, false, not, cond, _&&_, _||_}
+use mathlib.Core.Bool.{Bool, true, false, not, cond, _&&_}
 use mathlib.Core.List.{List, [], _∷_}
 use Prim.Native.Nat.{ℕ, suc, _+_, _-_, _*_, _≤_, _<_}
 use native.Mathlib.Numerals.{add-one}
@@ -102,10 +102,6 @@ module _ (c : ℕ) where
 
   hex-not : isDecimal c ≡ false → (leb 65 c && leb c 70) ≡ false → (leb 97 c && leb c 102) ≡ false → isHexadecimal c ≡ false
   hex-not a b d = rw (a, b, d)
-
-  or-true : (b : Bool) → (b || true) ≡ true
-  or-true true = refl
-  or-true false = refl
 
   between : (lo hi : ℕ) → (c < lo) → (leb lo c && leb c hi) ≡ false
   between lo hi h = rw (lt-leb lo c h)

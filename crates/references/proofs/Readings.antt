@@ -18,7 +18,7 @@ use Rattle.model.proofs.Borders.{ref-into, ref-out, ref-size, ref-plain, ref-gr
 use Rattle.model.proofs.Decoding.{utf8-four, form-four}
 use Rattle.references.specs.declared.Reference.{Reference}
 use Rattle.references.specs.declared.Reference.the-variants.{Code, Plain, Open}
-use Rattle.references.specs.Reader.{readAs, reading, Moves, ReadIs, Compared, numberReading}
+use Rattle.references.specs.Reader.{readAs, reading, Moves, ReadIs, NamePlace, NumberPlace, Compared, numberReading}
 use Rattle.references.proofs.Cuts.{grow-plain, reference-front, grow-front}
 use Rattle.references.proofs.Numbers.{legal-small}
 
@@ -84,11 +84,11 @@ reaches s i b e h = go (decLe (length s) i)
     go (yes l) = absurd (omega (arith, e ∙ List·getD-eq-default s 0 l))
     go (no l) = omega arith
 
-pub hex-room : (s : List ℕ) (b : ℕ) → b ≡ getD s 2 0 → b ≡ 120 → 3 ≤ length s
-hex-room s b e q = let h = reaches s 2 b e (omega arith) in omega arith
+pub hex-place : (s : List ℕ) → length s ≤ formLimit → (b : ℕ) → b ≡ getD s 2 0 → b ≡ 120 → NumberPlace s 3
+hex-place s l b e q = let h = reaches s 2 b e (omega arith) in record { mark = omega arith; short = l }
 
-pub decimal-room : (s : List ℕ) (b : ℕ) → b ≡ getD s 1 0 → b ≡ 35 → 2 ≤ length s
-decimal-room s b e q = let h = reaches s 1 b e (omega arith) in omega arith
+pub decimal-place : (s : List ℕ) → length s ≤ formLimit → (b : ℕ) → b ≡ getD s 1 0 → b ≡ 35 → NumberPlace s 2
+decimal-place s l b e q = let h = reaches s 1 b e (omega arith) in record { mark = omega arith; short = l }
 
 -- after `&#x`, and after `&#`
 hex-is : (t : List ℕ) → numberReading true 3 (38 ∷ 35 ∷ 120 ∷ t) ≡ reading formLimit (38 ∷ 35 ∷ 120 ∷ t)
@@ -123,6 +123,9 @@ decimal-of (x ∷ y ∷ t) a b c =
     subst (λ (l : List ℕ). numberReading false 2 l ≡ reading formLimit l) {x = 38 ∷ 35 ∷ t} {y = x ∷ y ∷ t} (sym e) (decimal-is t c)
 
 module _ (s : List ℕ) (b₀ : ℕ) (e₀ : b₀ ≡ getD s 0 0) (q₀ : b₀ ≡ 38) (b₁ : ℕ) (e₁ : b₁ ≡ getD s 1 0) where
+  pub name-place : (b₁ ≡ 35 → ⊥) → NamePlace s
+  name-place n = record { amp = sym e₀ ∙ q₀; no-mark = λ e. n (e₁ ∙ e) }
+
   pub after-mark : b₁ ≡ 35 → (b₂ : ℕ) → b₂ ≡ getD s 2 0 → b₂ ≡ 120 → (r : Reference) → r ≡ numberReading true 3 s → ReadIs s r
   after-mark q₁ b₂ e₂ q₂ r e = read-is s r (e ∙ hex-of s (sym e₀ ∙ q₀) (sym e₁ ∙ q₁) (sym e₂ ∙ q₂))
 
@@ -153,29 +156,29 @@ pub is-quot : (s : List ℕ) (m : ℕ) → Compared (ascii "&quot;") s m → m �
 is-quot s m x e = name-whole (ascii "&quot;") s 34 m quot (omega arith) refl x e
 
 -- they are a beginning of a name; `grow` is the model's law that the name's test makes `canGrow` pass
-name-short : (name s : List ℕ) (m b : ℕ) → b ≡ getD s 0 0 → b ≡ 38 → T (leb (length name) formLimit)
+name-short : (name s : List ℕ) (m : ℕ) → NamePlace s → T (leb (length name) formLimit)
     → ((c : ℕ) (cs : List ℕ) → T (growsName formLimit name (c ∷ cs)) → T (canGrow formLimit (c ∷ cs))) → Compared name s m → m ≡ 1 → ReadIs s Open
-name-short name [] m b e q l grow x y = absurd (omega arith)
-name-short name (c ∷ cs) m b e q l grow x y =
+name-short name [] m p l grow x y = let a = p .amp in absurd (omega arith)
+name-short name (c ∷ cs) m p l grow x y =
     let t : T (shorterOf (c ∷ cs) name) = T-to (sym (x .shorter ∙ eq-eqb m 1 y)) tt in
     let g : T (canGrow formLimit (c ∷ cs)) = grow c cs (and-intro (shorterOf (c ∷ cs) name) (leb (length name) formLimit) t l) in
     read-is (c ∷ cs) Open (reads-open formLimit (c ∷ cs) (T-true (canGrow formLimit (c ∷ cs)) g))
 
-module _ (s : List ℕ) (b : ℕ) (e : b ≡ getD s 0 0) (q : b ≡ 38) (m : ℕ) where
+module _ (s : List ℕ) (p : NamePlace s) (m : ℕ) where
   pub open-amp : Compared (ascii "&amp;") s m → m ≡ 1 → ReadIs s Open
-  open-amp x y = name-short (ascii "&amp;") s m b e q tt (grow-amp formLimit) x y
+  open-amp x y = name-short (ascii "&amp;") s m p tt (grow-amp formLimit) x y
 
   pub open-lt : Compared (ascii "&lt;") s m → m ≡ 1 → ReadIs s Open
-  open-lt x y = name-short (ascii "&lt;") s m b e q tt (grow-lt formLimit) x y
+  open-lt x y = name-short (ascii "&lt;") s m p tt (grow-lt formLimit) x y
 
   pub open-gt : Compared (ascii "&gt;") s m → m ≡ 1 → ReadIs s Open
-  open-gt x y = name-short (ascii "&gt;") s m b e q tt (grow-gt formLimit) x y
+  open-gt x y = name-short (ascii "&gt;") s m p tt (grow-gt formLimit) x y
 
   pub open-apos : Compared (ascii "&apos;") s m → m ≡ 1 → ReadIs s Open
-  open-apos x y = name-short (ascii "&apos;") s m b e q tt (grow-apos formLimit) x y
+  open-apos x y = name-short (ascii "&apos;") s m p tt (grow-apos formLimit) x y
 
   pub open-quot : Compared (ascii "&quot;") s m → m ≡ 1 → ReadIs s Open
-  open-quot x y = name-short (ascii "&quot;") s m b e q tt (grow-quot formLimit) x y
+  open-quot x y = name-short (ascii "&quot;") s m p tt (grow-quot formLimit) x y
 
 -- none of them
 and-first : (a b : Bool) → a ≡ false → (a && b) ≡ false
@@ -206,20 +209,20 @@ no-mark more (x ∷ y ∷ c) n =
     go true b e = e
     go false b e = refl
 
-pub no-name : (s : List ℕ) (b₀ : ℕ) → b₀ ≡ getD s 0 0 → b₀ ≡ 38 → (b₁ : ℕ) → b₁ ≡ getD s 1 0 → (b₁ ≡ 35 → ⊥)
+pub no-name : (s : List ℕ) → NamePlace s
     → (m₁ : ℕ) → Compared (ascii "&amp;") s m₁ → (m₁ ≡ 2 → ⊥) → (m₁ ≡ 1 → ⊥)
     → (m₂ : ℕ) → Compared (ascii "&lt;") s m₂ → (m₂ ≡ 2 → ⊥) → (m₂ ≡ 1 → ⊥)
     → (m₃ : ℕ) → Compared (ascii "&gt;") s m₃ → (m₃ ≡ 2 → ⊥) → (m₃ ≡ 1 → ⊥)
     → (m₄ : ℕ) → Compared (ascii "&apos;") s m₄ → (m₄ ≡ 2 → ⊥) → (m₄ ≡ 1 → ⊥)
     → (m₅ : ℕ) → Compared (ascii "&quot;") s m₅ → (m₅ ≡ 2 → ⊥) → (m₅ ≡ 1 → ⊥)
     → ReadIs s Plain
-no-name [] b₀ e₀ q₀ b₁ e₁ n₁ m₁ x₁ a₁ d₁ m₂ x₂ a₂ d₂ m₃ x₃ a₃ d₃ m₄ x₄ a₄ d₄ m₅ x₅ a₅ d₅ = absurd (omega arith)
-no-name (c ∷ cs) b₀ e₀ q₀ b₁ e₁ n₁ m₁ x₁ a₁ d₁ m₂ x₂ a₂ d₂ m₃ x₃ a₃ d₃ m₄ x₄ a₄ d₄ m₅ x₅ a₅ d₅ =
+no-name [] p m₁ x₁ a₁ d₁ m₂ x₂ a₂ d₂ m₃ x₃ a₃ d₃ m₄ x₄ a₄ d₄ m₅ x₅ a₅ d₅ = let a = p .amp in absurd (omega arith)
+no-name (c ∷ cs) p m₁ x₁ a₁ d₁ m₂ x₂ a₂ d₂ m₃ x₃ a₃ d₃ m₄ x₄ a₄ d₄ m₅ x₅ a₅ d₅ =
     let s = c ∷ cs in
     let whole : (name : List ℕ) (m : ℕ) → Compared name s m → (m ≡ 2 → ⊥) → beginsWith name s ≡ false = λ name m x n. x .begins ∙ ne-eqb m 2 n in
     let short : (name : List ℕ) (m : ℕ) → Compared name s m → (m ≡ 1 → ⊥) → growsName formLimit name s ≡ false =
     λ name m x n. and-first (shorterOf s name) (leb (length name) formLimit) (x .shorter ∙ ne-eqb m 1 n) in
-    let mark : (more : List ℕ) → beginsWith (38 ∷ 35 ∷ more) s ≡ false = λ more. no-mark more s (λ z. n₁ (e₁ ∙ z)) in
+    let mark : (more : List ℕ) → beginsWith (38 ∷ 35 ∷ more) s ≡ false = λ more. no-mark more s (p .no-mark) in
     let number : (more : List ℕ) (ok : ℕ → Bool) → growsNumber formLimit (38 ∷ 35 ∷ more) ok s ≡ false =
     λ more ok. and-first _ _ (and-first (beginsWith (38 ∷ 35 ∷ more) s) (all ok (drop (length (38 ∷ 35 ∷ more)) s)) (mark more)) in
     let f : spelt s ≡ none =

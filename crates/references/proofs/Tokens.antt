@@ -17,7 +17,7 @@ use Rattle.references.specs.declared.Reference.{Reference}
 use Rattle.references.specs.declared.Reference.the-variants.{Code, Plain, Open}
 use Rattle.references.specs.declared.Place.{Place}
 use Rattle.references.specs.Reader.{reading, Moves, ReadIs}
-use Rattle.references.specs.Decoder.{decoded, Put, RunCopied, TokenIs, Decoded, refusing, counting, decodeAnswer, decodeBuffer, DecodeIs}
+use Rattle.references.specs.Decoder.{decoded, PutFine, Put, RunCopied, TokenIs, Decoded, refusing, counting, decodeAnswer, decodeBuffer, DecodeIs}
 use Rattle.references.proofs.Cuts.{decode-reference, decode-run}
 use Rattle.references.proofs.Readings.{code-told, plain-told, open-told}
 
@@ -66,13 +66,13 @@ module _ (raw out : List ℕ) (i at : ℕ) (h : i < length raw) (room : at + len
       moving : Moves (drop i raw) (Code code k)
       moving = subst (λ (l : List ℕ). Moves l (Code code k)) rest-is (subst (Moves (midOf i (length raw - i) raw)) e (x .moves))
 
-      pub code-fits : (code < 1114112) × (length (utf8 code) ≤ length (midOf at (length out - at) out))
+      pub code-fits : PutFine (midOf at (length out - at) out) code
       code-fits =
           let m = moving in
           let m₁ = m .1 in
           let m₂ = m .2 in
           let l : length (midOf at (length out - at) out) ≡ length out - at = ap length (take-all (length out - at) (drop at out) (omega (arith, length-drop at out))) ∙ length-drop at out in
-          (m .3, omega (arith, length-drop i raw))
+          record { small = m .3; room = omega (arith, length-drop i raw) }
 
       pub code-steps : (i + k ≤ length raw) × (length (utf8 code) ≤ k)
       code-steps =

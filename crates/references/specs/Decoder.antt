@@ -16,6 +16,11 @@ use Rattle.references.specs.declared.Answer.{Answer}
 unfoldable pub decoded : List ℕ → List ℕ
 decoded raw = decode formLimit raw
 
+-- what `put_utf8` asks: a code point, and room for its bytes
+pub record PutFine (out : List ℕ) (code : ℕ) : Type 0 where
+  pub small : code < 1114112
+  pub room : length (utf8 code) ≤ length out
+
 -- `put_utf8`: the result r and the buffer at exit
 pub record Put (out : List ℕ) (code r : ℕ) (out′ : List ℕ) : Type 0 where
   pub count : r ≡ length (utf8 code)

@@ -4,7 +4,7 @@ use mathlib.Core.Bool.{Bool, true, false, cond, _&&_}
 use mathlib.Core.List.{List}
 use Prim.Native.Nat.{ℕ, _+_, _≤_, _<_}
 use lib.Dec.{leb, ltb, eqb}
-use lib.ListN.{length, drop}
+use lib.ListN.{length, drop, getD}
 use Rattle.model.specs.Occurrence.{all}
 use Rattle.model.specs.RuleText.{isDecimal}
 use Rattle.model.specs.References.{formLimit, isHexadecimal, digitValue, Found, none, found, numberFrom, beginsWith, within, legalBy, referenceAt, utf8, shorterOf, lacking, canGrow}
@@ -35,6 +35,16 @@ pub record ReadIs (s : List ℕ) (r : Reference) : Type 0 where
 
 -- ---- its parts
 
+-- where `read_name` reads: a `&`, and no `#` after it
+pub record NamePlace (s : List ℕ) : Type 0 where
+  pub amp : getD s 0 0 ≡ 38
+  pub no-mark : getD s 1 0 ≡ 35 → ⊥
+
+-- where `read_number` reads: after a mark of `from` bytes, in no more bytes than a form has
+pub record NumberPlace (s : List ℕ) (from : ℕ) : Type 0 where
+  pub mark : from ≤ length s
+  pub short : length s ≤ formLimit
+
 -- `compare`: 2, the bytes begin with the name; 1, they are shorter and begin it
 pub record Compared (name s : List ℕ) (r : ℕ) : Type 0 where
   pub begins : beginsWith name s ≡ eqb r 2
@@ -62,7 +72,7 @@ pub record GrownIs (n r : ℕ) : Type 0 where
   pub is : r ≡ capped n
   pub small : r ≤ 1114112
 
--- `read_number`: digits from `from` on, after a mark of as many bytes
+-- `read_number`: digits from `from` on
 unfoldable pub numberReading : (hex : Bool) (from : ℕ) → List ℕ → Reference
 numberReading hex from s =
     readAs (legalBy (within formLimit (numberFrom (okOf hex) (baseOf hex) 0 from 0 (drop from s))))

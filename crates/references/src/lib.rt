@@ -5,9 +5,9 @@ ghost use mathlib.Core.Bool.{false};
 ghost use Prim.Native.Nat.{_+_, _*_, _<_, _≤_};
 ghost use lib.ListN.{length, take, drop, getD};
 ghost use lib.Seq.{sets};
-ghost use Rattle.model.specs.References.{formLimit, heldMost, isChar, legal, utf8};
-ghost use Rattle.references.specs.Reader.{Compared, DigitIs, GrownIs, baseOf, readAs, numberReading, ReadIs};
-ghost use Rattle.references.specs.Decoder.{Put, Looked, PlainIs, RunIs, Copied, RunCopied, TokenIs, Decoded, DecodeIs};
+ghost use Rattle.model.specs.References.{formLimit, heldMost, isChar, legal};
+ghost use Rattle.references.specs.Reader.{Compared, DigitIs, GrownIs, baseOf, readAs, numberReading, NamePlace, NumberPlace, ReadIs};
+ghost use Rattle.references.specs.Decoder.{PutFine, Put, Looked, PlainIs, RunIs, Copied, RunCopied, TokenIs, Decoded, DecodeIs};
 ghost use Rattle.references.specs.Crosses.{HeldFine, JoinIs, CrossIs};
 
 // "at most 10 bytes from `&` to `;`"
@@ -145,8 +145,7 @@ fn if_legal(n: u32, k: usize) -> Reference
 
 // A number's digits from `from` on, up to a `;`.
 fn read_number(s: &[u8], from: usize, hex: bool) -> Reference
-    requires { ⌜ from ≤ length (now s) ⌝ }
-    requires { ⌜ length (now s) ≤ formLimit ⌝ }
+    requires { ⌜ NumberPlace (now s) from ⌝ }
     ensures { λ r. ⌜ r ≡ numberReading hex from (now (s .entry)) ⌝ }
 {
     let mut value = 0;
@@ -178,20 +177,11 @@ fn read_number(s: &[u8], from: usize, hex: bool) -> Reference
     Reference::Plain
 }
 
-// The reader, on at most as many bytes as a form has.
-fn read_short(s: &[u8]) -> Reference
-    requires { ⌜ length (now s) ≤ formLimit ⌝ }
+// One of the five names, or the beginning of one.
+fn read_name(s: &[u8]) -> Reference
+    requires { ⌜ NamePlace (now s) ⌝ }
     ensures { λ r. ⌜ ReadIs (now (s .entry)) r ⌝ }
 {
-    if peek(s, 0) != b'&' {
-        return Reference::Plain;
-    }
-    if peek(s, 1) == b'#' {
-        if peek(s, 2) == b'x' {
-            return read_number(s, 3, true);
-        }
-        return read_number(s, 2, false);
-    }
     let amp = compare(b"&amp;", s);
     if amp == 2 {
         return Reference::Code(38, 5);
@@ -230,6 +220,23 @@ fn read_short(s: &[u8]) -> Reference
     Reference::Plain
 }
 
+// The reader, on at most as many bytes as a form has.
+fn read_short(s: &[u8]) -> Reference
+    requires { ⌜ length (now s) ≤ formLimit ⌝ }
+    ensures { λ r. ⌜ ReadIs (now (s .entry)) r ⌝ }
+{
+    if peek(s, 0) != b'&' {
+        return Reference::Plain;
+    }
+    if peek(s, 1) != b'#' {
+        return read_name(s);
+    }
+    if peek(s, 2) == b'x' {
+        return read_number(s, 3, true);
+    }
+    read_number(s, 2, false)
+}
+
 // What stands at the front of `s`. The first bytes, as many as a form has at most, decide it.
 pub fn read_reference(s: &[u8]) -> Reference
     ensures { λ r. ⌜ ReadIs (now (s .entry)) r ⌝ }
@@ -242,8 +249,7 @@ pub fn read_reference(s: &[u8]) -> Reference
 
 // Writes the UTF-8 bytes of a code point at the front of `out`, and returns how many.
 pub fn put_utf8(out: &mut [u8], code: u32) -> usize
-    requires { ⌜ code < 1114112 ⌝ }
-    requires { ⌜ length (utf8 code) ≤ length (now out) ⌝ }
+    requires { ⌜ PutFine (now out) code ⌝ }
     ensures { λ r. ⌜ Put (now (out .entry)) code r (now (out .exit)) ⌝ }
 {
     if code < 128 {

@@ -1,54 +1,37 @@
+-- `references::amp_token` meets its contract. Its laws are in this crate's `proofs/`; `search LAW` finds a law's premises in `c`. Assumes nothing.
 use Rattle.references.proofs.Tokens.{code-fits, code-steps, token-code, token-plain, token-open}
 use native.Mathlib.Omega.{arith}
 use borrow.Author.Needs.{needs}
 use Rattle.references.proofs.amp_token.Statement.{statement}
 use Rattle.references.proofs.amp_token.Tie as tie
-use Rattle.references.proofs.amp_token.Reads as reads
-use Rattle.references.proofs.amp_token.Lts as lts
-use Rattle.references.proofs.put_utf8.Reads as put-utf8-reads
-use Rattle.references.proofs.read_reference.Reads as read-reference-reads
 
--- src/lib.rt:390:32
 sub-read-reference : tie.Need-sub-read-reference
 sub-read-reference c = search needs
 
--- src/lib.rt:390:32
 part-read-reference-start : tie.Need-part-read-reference-start
 part-read-reference-start c = search needs
 
--- src/lib.rt:390:32
 part-read-reference-end : tie.Need-part-read-reference-end
 part-read-reference-end c = search needs
 
--- src/lib.rt:390:9
 read-reference-requires : tie.Need-read-reference-requires
 read-reference-requires c κs = search needs
 
--- src/lib.rt:392:25
 enum-known-found : tie.Need-enum-known-found
 enum-known-found c = search needs
 
--- src/lib.rt:393:30
 sub-put-utf8 : tie.Need-sub-put-utf8
 sub-put-utf8 c = search needs
 
--- src/lib.rt:393:30
 part-put-utf8-start : tie.Need-part-put-utf8-start
 part-put-utf8-start c = search needs
 
--- src/lib.rt:393:30
 part-put-utf8-end : tie.Need-part-put-utf8-end
 part-put-utf8-end c = search needs
 
--- src/lib.rt:393:17
 put-utf8-requires : tie.Need-put-utf8-requires
-put-utf8-requires c κs =
-    let f = c .before .before in
-    let x = f .before .before in
-    let s = x .before .before .before .before in
-    code-fits (s .args .raw .now) (s .args .out .now) (s .args .i) (s .args .at) (s .pre .0) (s .pre .1 .0) (s .pre .1 .1) (x .read-reference .result) (x .read-reference .ensures) _ _ (f .found .given .1)
+put-utf8-requires c κs = search code-fits
 
--- src/lib.rt:395:23
 add-t14 : tie.Need-add-t14
 add-t14 c =
     let f = c .before .before .before .before .before in
@@ -57,7 +40,6 @@ add-t14 c =
     let m = code-steps (s .args .raw .now) (s .args .out .now) (s .args .i) (s .args .at) (s .pre .0) (s .pre .1 .0) (s .pre .1 .1) (x .read-reference .result) (x .read-reference .ensures) _ _ (f .found .given .1) in
     omega arith
 
--- src/lib.rt:396:26
 add-t17 : tie.Need-add-t17
 add-t17 c =
     let f = c .before .before .before .before .before in
@@ -66,59 +48,45 @@ add-t17 c =
     let m = code-steps (s .args .raw .now) (s .args .out .now) (s .args .i) (s .args .at) (s .pre .0) (s .pre .1 .0) (s .pre .1 .1) (x .read-reference .result) (x .read-reference .ensures) _ _ (f .found .given .1) in
     omega arith
 
--- src/lib.rt:394:13
 same-length : tie.Need-same-length
 same-length c = search needs
 
--- src/lib.rt:394:13
 returns : tie.Need-returns
 returns c = search token-code
 
--- src/lib.rt:400:13
 enum-told : tie.Need-enum-told
 enum-told c = search needs
 
--- src/lib.rt:400:13
 slice-write-out : tie.Need-slice-write-out
 slice-write-out c = search needs
 
--- src/lib.rt:402:23
 add-t19 : tie.Need-add-t19
 add-t19 c = search needs
 
--- src/lib.rt:403:26
 add-t20 : tie.Need-add-t20
 add-t20 c = search needs
 
--- src/lib.rt:401:13
 same-length-2 : tie.Need-same-length-2
 same-length-2 c = search needs
 
--- src/lib.rt:401:13
 returns-2 : tie.Need-returns-2
 returns-2 c = search token-plain
 
--- src/lib.rt:407:13
 enum-told-2 : tie.Need-enum-told-2
 enum-told-2 c = search needs
 
--- src/lib.rt:407:13
 slice-write-out-2 : tie.Need-slice-write-out-2
 slice-write-out-2 c = search needs
 
--- src/lib.rt:409:23
 add-t22 : tie.Need-add-t22
 add-t22 c = search needs
 
--- src/lib.rt:410:26
 add-t23 : tie.Need-add-t23
 add-t23 c = search needs
 
--- src/lib.rt:408:13
 same-length-3 : tie.Need-same-length-3
 same-length-3 c = search needs
 
--- src/lib.rt:408:13
 returns-3 : tie.Need-returns-3
 returns-3 c = search token-open
 

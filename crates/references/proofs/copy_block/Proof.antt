@@ -1,11 +1,9 @@
+-- `references::copy_block` meets its contract. Its laws are in this crate's `proofs/`; `search LAW` finds a law's premises in `c`. Assumes nothing.
 use Rattle.references.proofs.Runs.{Copying, copy-begun, copy-on, copy-over}
 use Prim.Native.Nat.{_-_}
 use borrow.Author.Needs.{needs}
 use Rattle.references.proofs.copy_block.Statement.{statement}
 use Rattle.references.proofs.copy_block.Tie as tie
-use Rattle.references.proofs.copy_block.Reads as reads
-use Rattle.references.proofs.copy_block.Lts as lts
-use Rattle.references.proofs.block_at.Reads as block-at-reads
 
 abbrev Inv-loop : tie.InvT-loop
 Inv-loop raw i out₀ block j₀ out j = Copying block i out₀ out j
@@ -13,43 +11,33 @@ Inv-loop raw i out₀ block j₀ out j = Copying block i out₀ out j
 abbrev μ-loop : tie.MeasureT-loop
 μ-loop raw i out₀ block j₀ out j = 32 - j
 
--- src/lib.rt:335:17
 block-at-requires : tie.Need-block-at-requires Inv-loop μ-loop
 block-at-requires c κs = search needs
 
--- src/lib.rt:337:5
 loop-holds : tie.Need-loop-holds Inv-loop μ-loop
 loop-holds c = search copy-begun
 
--- src/lib.rt:338:22
 array-read-out : tie.Need-array-read-out Inv-loop μ-loop
 array-read-out c = search needs
 
--- src/lib.rt:338:13
 add-out : tie.Need-add-out Inv-loop μ-loop
 add-out c = search needs
 
--- src/lib.rt:338:9
 slice-write-out : tie.Need-slice-write-out Inv-loop μ-loop
 slice-write-out c = search needs
 
--- src/lib.rt:339:9
 add-j : tie.Need-add-j Inv-loop μ-loop
 add-j c = search needs
 
--- src/lib.rt:337:5
 loop-less : tie.Need-loop-less Inv-loop μ-loop
 loop-less c = search needs
 
--- src/lib.rt:337:5
 loop-again : tie.Need-loop-again Inv-loop μ-loop
 loop-again c = search copy-on
 
--- src/lib.rt:330:1
 same-length : tie.Need-same-length Inv-loop μ-loop
 same-length c = search needs
 
--- src/lib.rt:330:1
 returns : tie.Need-returns Inv-loop μ-loop
 returns c = search copy-over
 
