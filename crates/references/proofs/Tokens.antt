@@ -172,7 +172,7 @@ module _ (raw out₀ : List ℕ) where
 module _ (raw out : List ℕ) where
   pub too-long : textLimit < length raw → DecodeIs raw out (refusing 10) out
   unfolding decodeAnswer decodeBuffer
-  too-long h = record { answers = rw (lt-ltb textLimit (length raw) h); buffer = rw (lt-ltb textLimit (length raw) h) }
+  too-long h = record { answers = rw (lt-ltb textLimit (length raw) h); few = omega arith; buffer = rw (lt-ltb textLimit (length raw) h) }
 
   module _ (h : length raw ≤ textLimit) where
     pub too-short : length out < length raw → DecodeIs raw out (refusing 9) out
@@ -180,6 +180,7 @@ module _ (raw out : List ℕ) where
     too-short k =
         record {
           answers = rw (le-ltb textLimit (length raw) h, lt-ltb (length out) (length raw) k);
+          few = omega arith;
           buffer = rw (le-ltb textLimit (length raw) h, lt-ltb (length out) (length raw) k);
         }
 
@@ -188,5 +189,6 @@ module _ (raw out : List ℕ) where
     accepted k n out′ x =
         record {
           answers = rw (le-ltb textLimit (length raw) h, le-ltb (length out) (length raw) k, x .count);
+          few = let f = x .few in omega arith;
           buffer = rw (le-ltb textLimit (length raw) h, le-ltb (length out) (length raw) k) (x .list);
         }

@@ -85,4 +85,5 @@ decodeBuffer raw out = cond (eqb (wholeRefusal (length raw) (length out)) 0) (ov
 
 pub record DecodeIs (raw out : List ℕ) (r : Answer) (out′ : List ℕ) : Type 0 where
   pub answers : r ≡ decodeAnswer raw out
+  pub few : r .count ≤ length out
   pub buffer : out′ ≡ decodeBuffer raw out
