@@ -10,7 +10,7 @@ use Rattle.model.specs.Ascii.{ascii}
 use Rattle.model.specs.Occurrence.{Position, shortest, ends, starts}
 use Rattle.model.specs.RuleText.{foldFlag, kindSet, class, byte, gap, once, optional, repeatable}
 use Rattle.model.specs.NumberedAnswers.{accepted, parse, rulePositions, wholeRefusal, overwrite}
-use Rattle.model.specs.References.{formLimit, utf8, decode, heldTail}
+use Rattle.model.specs.References.{formLimit, utf8, decode, heldTail, letOut}
 use Rattle.model.specs.PlainScan.{feed, finish, refused, reported, plainScan, reportedEnds}
 use Rattle.model.specs.WindowSearch.{windows, shown}
 use Rattle.model.specs.MarkedTable.{same, isRefused}
@@ -109,11 +109,13 @@ folded = refl
 data Raw : Type 0 where
   decodes : (raw text : List ℕ) → Raw
   holds : (raw tail : List ℕ) → Raw
+  letsOut : (raw text : List ℕ) → Raw
 
 abbrev rawHolds : List Raw → Bool
 rawHolds [] = true
 rawHolds (decodes raw text ∷ rs) = same text (decode formLimit raw) && rawHolds rs
 rawHolds (holds raw tail ∷ rs) = same tail (heldTail formLimit raw) && rawHolds rs
+rawHolds (letsOut raw text ∷ rs) = same text (letOut formLimit raw) && rawHolds rs
 
 references : T (rawHolds (
     decodes (ascii "&lt;&gt;&amp;&apos;&quot;") (ascii "<>&'\"")
@@ -129,6 +131,9 @@ references : T (rawHolds (
     ∷ decodes (ascii "&#X26;&AMP;&#;&#x;") (ascii "&#X26;&AMP;&#;&#x;")
     ∷ decodes (ascii "&#0000038;&#00000038;") (ascii "&&#00000038;")  -- ten bytes, and eleven
     ∷ decodes (ascii "&&amp;&am&amp;&") (ascii "&&&am&&")
+    ∷ decodes
+    (replicate 31 97 ++ ascii "&amp;" ++ replicate 32 98 ++ ascii "&#xE9;" ++ replicate 33 99 ++ ascii "&lt;")
+    (replicate 31 97 ++ ascii "&" ++ replicate 32 98 ++ (195 ∷ 169 ∷ []) ++ replicate 33 99 ++ ascii "<")
     ∷ holds (ascii "a&am") (ascii "&am")
     ∷ holds (ascii "&#xD800") (ascii "&#xD800")
     ∷ holds (ascii "&#12345678") []  -- ten bytes: no room for the `;`
@@ -136,6 +141,10 @@ references : T (rawHolds (
     ∷ holds (ascii "&&") (ascii "&")
     ∷ holds (ascii "&amp;") []
     ∷ holds (ascii "&ax") []
+    ∷ letsOut (ascii "a&lt;&am") (ascii "a<")
+    ∷ letsOut (ascii "&am" ++ ascii "p;b") (ascii "&b")  -- `&am` was held: a reference is completed
+    ∷ letsOut (ascii "&am" ++ ascii "b&") (ascii "&amb")  -- it goes out as it came
+    ∷ letsOut (ascii "&#1234567" ++ ascii "8") (ascii "&#12345678")
     ∷ []
     ))
 unfolding utf8

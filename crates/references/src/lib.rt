@@ -13,8 +13,9 @@ ghost use Rattle.references.specs.Crosses.{HeldFine, JoinIs, CrossIs};
 // "at most 10 bytes from `&` to `;`"
 pub const FORM_LIMIT: usize = 10;
 
-// What stands at the front of some bytes: a legal reference, its code point and how many bytes spell it; no reference, so that the first
-// byte is plain; or a beginning of a form, which the bytes are all of.
+// What stands at the front of some bytes. `Code`: a legal reference, its code point and how many bytes
+// spell it. `Plain`: none, so that the first byte stays. `Open`: all the bytes are the beginning of a
+// form.
 pub enum Reference {
     Code(u32, usize),
     Plain,
@@ -31,7 +32,8 @@ fn peek(s: &[u8], i: usize) -> u8
     0
 }
 
-// A fixed form against some bytes: 2 if they begin with it, 1 if they are a beginning of it and shorter, else 0.
+// A name's form against some bytes, byte by byte: 2 if they begin with it, 1 if they are shorter and
+// begin it, else 0.
 fn compare(name: &[u8], s: &[u8]) -> u8
     ensures { λ r. ⌜ Compared (now (name .entry)) (now (s .entry)) r ⌝ }
 {
@@ -133,7 +135,7 @@ fn is_char(n: u32) -> bool
     false
 }
 
-// What becomes of a form of number n and k bytes.
+// What becomes of a form of number n and k bytes: decoded if it is legal, else it stays.
 fn if_legal(n: u32, k: usize) -> Reference
     ensures { λ r. ⌜ r ≡ readAs (legal n k) false ⌝ }
 {
@@ -459,7 +461,8 @@ pub struct Answer {
     pub windows: u32,
 }
 
-// Decodes a whole plan into the lent buffer: 10 if it is too long, 9 if the buffer is shorter than it.
+// Decodes a whole plan into the lent buffer: refused by 10 if it is too long, by 9 if the buffer is
+// shorter than it.
 pub fn decode(raw: &[u8], out: &mut [u8]) -> Answer
     ensures { λ r. ⌜ DecodeIs (now (raw .entry)) (now (out .entry)) r (now (out .exit)) ⌝ }
 {
@@ -504,14 +507,15 @@ pub enum Across {
     Growing,
 }
 
-// Beside it the held bytes and the first of the piece, joined.
+// The case, and beside it the held bytes and the first of the piece, joined.
 pub struct Crossing {
     pub case: Across,
     pub joined: Held,
 }
 
-// The held bytes and the first of the piece, together as many as a form has at most.
-fn join(h: Held, piece: &[u8]) -> Held
+// The held bytes and the first of the piece, together as many as a form has at most. With nothing
+// held, it takes up what a piece leaves open.
+pub fn join(h: Held, piece: &[u8]) -> Held
     requires { ⌜ h .len ≤ heldMost formLimit ⌝ }
     ensures { λ r. ⌜ JoinIs h (now (piece .entry)) r ⌝ }
 {
@@ -529,7 +533,7 @@ fn join(h: Held, piece: &[u8]) -> Held
     Held { bytes: t, len: n }
 }
 
-// Held bytes and the head of the next piece, read once.
+// Held bytes and the head of the next piece, read once: what becomes of them at the cut.
 pub fn cross(h: Held, piece: &[u8]) -> Crossing
     requires { ⌜ HeldFine h ⌝ }
     ensures { λ r. ⌜ CrossIs h (now (piece .entry)) r ⌝ }
