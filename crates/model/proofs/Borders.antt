@@ -8,15 +8,12 @@ use native.Mathlib.Omega.{arith}
 use lib.Dec.{T, eqb}
 use lib.ListN.{length, length-append}
 use Rattle.model.specs.Occurrence.{all}
-use Rattle.model.specs.References.{Found, none, found, formAt, isChar, legal, legalBy, referenceAt, CanGrow, canGrow}
+use Rattle.model.specs.References.{Found, none, found, formAt, isChar, legal, legalBy, referenceAt, notAmp, CanGrow, canGrow}
 use Rattle.model.proofs.Truth.{and-left, and-right, branch}
 use Rattle.model.proofs.Shares.{cut-first, cut-later, all-append, all-left, all-right, all-mono}
 use Rattle.model.proofs.Forms.{FormPrefix, form-into, form-out, inner, Shape, form-shape, grow-into, grow-out, not-none, found-bytes}
 
 -- ---- `&` stands first in a form and nowhere else; `;` last and nowhere else
-
-abbrev pub notAmp : ℕ → Bool
-notAmp c = not (eqb c 38)
 
 inner-notAmp : (c : ℕ) → T (inner c) → T (notAmp c)
 inner-notAmp c t = and-left (not (eqb c 38)) (not (eqb c 59)) t

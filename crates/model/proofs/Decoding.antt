@@ -11,10 +11,10 @@ use lib.Dec.{T, ltb}
 use lib.ListN.{length, length-append}
 use lib.Seq.{take-at}
 use Rattle.model.specs.Occurrence.{all}
-use Rattle.model.specs.References.{Form, amp, lt, gt, apos, quot, decimal, hexadecimal, Found, none, found, referenceAt, utf8, tokenBy, tokensFrom, joined, decode, CanGrow, canGrow, heldTail, withoutTail, letOut, heldMost}
+use Rattle.model.specs.References.{Form, amp, lt, gt, apos, quot, decimal, hexadecimal, Found, none, found, referenceAt, utf8, tokenBy, tokensFrom, joined, decode, notAmp, CanGrow, canGrow, heldTail, withoutTail, letOut, heldMost}
 use Rattle.model.proofs.Truth.{and-left, and-right, T-to, T-true, T-false}
 use Rattle.model.proofs.Forms.{not-none, grow-into, grow-out}
-use Rattle.model.proofs.Borders.{notAmp, ref-into, ref-size, ref-local, ref-more, ref-across, ref-plain, ref-growing, grow-less, grow-head, grow-tail}
+use Rattle.model.proofs.Borders.{ref-into, ref-size, ref-local, ref-more, ref-across, ref-plain, ref-growing, grow-less, grow-head, grow-tail}
 
 module _ (limit : ℕ) where
   -- ---- one step
@@ -234,6 +234,7 @@ cond-length true xs ys k h l = h
 cond-length false xs ys k h l = l
 
 pub utf8-four : (n : ℕ) → length (utf8 n) ≤ 4
+unfolding utf8
 utf8-four n =
     cond-length (ltb n 128) _ _ 4 (omega arith)
     (cond-length (ltb n 2048) _ _ 4 (omega arith) (cond-length (ltb n 65536) _ _ 4 (omega arith) (omega arith)))

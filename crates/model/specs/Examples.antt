@@ -9,8 +9,8 @@ use lib.ListN.{length, replicate}
 use Rattle.model.specs.Ascii.{ascii}
 use Rattle.model.specs.Occurrence.{Position, shortest, ends, starts}
 use Rattle.model.specs.RuleText.{foldFlag, kindSet, class, byte, gap, once, optional, repeatable}
-use Rattle.model.specs.NumberedAnswers.{accepted, parse, rulePositions, overwrite}
-use Rattle.model.specs.References.{formLimit, decode, heldTail}
+use Rattle.model.specs.NumberedAnswers.{accepted, parse, rulePositions, wholeRefusal, overwrite}
+use Rattle.model.specs.References.{formLimit, utf8, decode, heldTail, letOut}
 use Rattle.model.specs.PlainScan.{feed, finish, refused, reported, plainScan, reportedEnds}
 use Rattle.model.specs.WindowSearch.{windows, shown}
 use Rattle.model.specs.MarkedTable.{same, isRefused}
@@ -109,11 +109,13 @@ folded = refl
 data Raw : Type 0 where
   decodes : (raw text : List ℕ) → Raw
   holds : (raw tail : List ℕ) → Raw
+  letsOut : (raw text : List ℕ) → Raw
 
 abbrev rawHolds : List Raw → Bool
 rawHolds [] = true
 rawHolds (decodes raw text ∷ rs) = same text (decode formLimit raw) && rawHolds rs
 rawHolds (holds raw tail ∷ rs) = same tail (heldTail formLimit raw) && rawHolds rs
+rawHolds (letsOut raw text ∷ rs) = same text (letOut formLimit raw) && rawHolds rs
 
 references : T (rawHolds (
     decodes (ascii "&lt;&gt;&amp;&apos;&quot;") (ascii "<>&'\"")
@@ -129,6 +131,9 @@ references : T (rawHolds (
     ∷ decodes (ascii "&#X26;&AMP;&#;&#x;") (ascii "&#X26;&AMP;&#;&#x;")
     ∷ decodes (ascii "&#0000038;&#00000038;") (ascii "&&#00000038;")  -- ten bytes, and eleven
     ∷ decodes (ascii "&&amp;&am&amp;&") (ascii "&&&am&&")
+    ∷ decodes
+    (replicate 31 97 ++ ascii "&amp;" ++ replicate 32 98 ++ ascii "&#xE9;" ++ replicate 33 99 ++ ascii "&lt;")
+    (replicate 31 97 ++ ascii "&" ++ replicate 32 98 ++ (195 ∷ 169 ∷ []) ++ replicate 33 99 ++ ascii "<")
     ∷ holds (ascii "a&am") (ascii "&am")
     ∷ holds (ascii "&#xD800") (ascii "&#xD800")
     ∷ holds (ascii "&#12345678") []  -- ten bytes: no room for the `;`
@@ -136,8 +141,13 @@ references : T (rawHolds (
     ∷ holds (ascii "&&") (ascii "&")
     ∷ holds (ascii "&amp;") []
     ∷ holds (ascii "&ax") []
+    ∷ letsOut (ascii "a&lt;&am") (ascii "a<")
+    ∷ letsOut (ascii "&am" ++ ascii "p;b") (ascii "&b")  -- `&am` was held: a reference is completed
+    ∷ letsOut (ascii "&am" ++ ascii "b&") (ascii "&amb")  -- it goes out as it came
+    ∷ letsOut (ascii "&#1234567" ++ ascii "8") (ascii "&#12345678")
     ∷ []
     ))
+unfolding utf8
 references = tt
 
 -- ---- the lister's example
@@ -152,12 +162,14 @@ abbrev plan : List ℕ
 plan = decode formLimit (ascii "Row A&amp;B 12;")
 
 lister : (length row ≡ 9) × (shortest row ≡ 9) × (ends row plan ≡ 9 ∷ 10 ∷ []) × (starts row plan ≡ 0 ∷ []) × (length (windows row plan) ≡ 1)
+unfolding utf8
 lister = (refl, refl, refl, refl, refl)
 
 -- "Forgetting held bytes at a cut inside `&amp;`": the plan in two pieces, cut there, with a feed that is refused for its short list between them, an
 -- empty piece, and calls after the finish.
 cut-plan : plainScan 0 rule (feed (ascii "Row A&a") 16 ∷ feed (ascii "x") 9 ∷ feed [] 9 ∷ feed (ascii "mp;B 12;") 17 ∷ finish 8 ∷ finish 9 ∷ feed [] 9 ∷ finish 9 ∷ [])
     ≡ reported [] ∷ refused 9 ∷ reported [] ∷ reported (9 ∷ 10 ∷ []) ∷ refused 9 ∷ reported [] ∷ refused 12 ∷ refused 12 ∷ []
+unfolding utf8
 cut-plan = refl
 
 -- A feed of one byte that reports ten ends, and a finish that lets nine through.
@@ -169,12 +181,18 @@ ten-ends : plainScan 0 (ascii ".") (feed (ascii "&#1234567") 18 ∷ feed (ascii 
     ∷ []
 ten-ends = refl
 
+-- ---- whole-text calls: 10 before 9, and the edges of both
+
+wholes : (wholeRefusal 5 5 ≡ 0) × (wholeRefusal 5 4 ≡ 9) × (wholeRefusal 0 0 ≡ 0) × (wholeRefusal 4294967295 4294967295 ≡ 0) × (wholeRefusal 4294967296 0 ≡ 10)
+wholes = (refl, refl, refl, refl, refl)
+
 -- ---- what is shown, and a lent list at exit
 
 shows : (shown 0 rule plan 0 ≡ record { from = 0; to = 9 })
     × (shown 0 rule plan 1 ≡ record { from = 11; to = 11 })
     × (shown 0 rule plan 12 ≡ record { from = 11; to = 11 })
     × (shown 0 (ascii "a?") plan 0 ≡ record { from = 11; to = 11 })
+unfolding utf8
 shows = (refl, refl, refl, refl)
 
 lent : overwrite (7 ∷ 7 ∷ 7 ∷ []) (1 ∷ 2 ∷ []) ≡ 1 ∷ 2 ∷ 7 ∷ []

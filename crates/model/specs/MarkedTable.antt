@@ -8,7 +8,7 @@ use lib.ListN.{length}
 use Rattle.model.specs.Ascii.{ascii}
 use Rattle.model.specs.Occurrence.{ends, starts}
 use Rattle.model.specs.NumberedAnswers.{Parsed, refused, accepted, parse, rulePositions}
-use Rattle.model.specs.References.{formLimit, heldMost, decode}
+use Rattle.model.specs.References.{formLimit, utf8, heldMost, decode}
 use Rattle.model.specs.PlainScan.{feed, finish, plainScan, reportedEnds}
 use Rattle.model.specs.WindowSearch.{windows}
 
@@ -73,4 +73,5 @@ table =
 
 -- The theorem: they all hold.
 pub marked-table : T (allHold table)
+unfolding utf8
 marked-table = tt

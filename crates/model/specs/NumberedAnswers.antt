@@ -1,5 +1,5 @@
--- Document 01, "Numbered answers": rows 1 to 8 and their order, the limit of a text, and lists at exit. (Rows 9, 10 and 12 of the scan calls stand in
--- `PlainScan`.) Assumes nothing.
+-- Document 01, "Numbered answers": rows 1 to 8 and their order, rows 9 and 10 of whole-text calls, and lists at exit. (Rows 9, 10 and 12 of the scan
+-- calls stand in `PlainScan`.) Assumes nothing.
 use mathlib.Core.Bool.{Bool, true, false, cond}
 use mathlib.Core.List.{List, [], _∷_, _++_}
 use Prim.Native.Nat.{ℕ, zero, suc, pred, _+_}
@@ -59,6 +59,11 @@ positionsBy fold (accepted es) = positions fold es
 
 abbrev pub rulePositions : (fold : Bool) → List ℕ → List Position
 rulePositions fold rule = positionsBy fold (parse fold rule)
+
+-- "Whole-text calls check the rule, then 10, then 9": what refuses one whose text has `text` bytes and whose list or buffer `lent` entries, after the rule,
+-- or 0. "Needed lengths: search list, the text's length; decode buffer, the raw length".
+abbrev pub wholeRefusal : (text lent : ℕ) → ℕ
+wholeRefusal text lent = cond (ltb textLimit text) 10 (cond (ltb lent text) 9 0)
 
 -- "Past the reported entries a list is untouched too": a lent list or buffer at exit, where it reports `entries`.
 abbrev pub overwrite : (lent entries : List ℕ) → List ℕ

@@ -1,6 +1,6 @@
 -- Document 01, "References": forms, what they decode to, and the tail that a scan holds back between pieces. The length limit of a form is a parameter,
 -- `limit`, of every definition; `formLimit` is this paper's. Assumes nothing.
-use mathlib.Core.Bool.{Bool, true, false, cond, _&&_, _||_}
+use mathlib.Core.Bool.{Bool, true, false, not, cond, _&&_, _||_}
 use mathlib.Core.List.{List, [], _∷_, _++_}
 use Prim.Native.Nat.{ℕ, zero, suc, pred, _+_, _-_, _*_, _/_, _%_, _≤_}
 use lib.Dec.{T, leb, ltb, eqb}
@@ -84,8 +84,8 @@ formAt limit cs = within limit (spelt cs)
 abbrev pub isChar : ℕ → Bool
 isChar n = eqb n 9 || eqb n 10 || eqb n 13 || (leb 32 n && leb n 55295) || (leb 57344 n && leb n 65533) || (leb 65536 n && leb n 1114111)
 
--- "its UTF-8 bytes, 1 to 4 of them"
-abbrev pub utf8 : ℕ → List ℕ
+-- "its UTF-8 bytes, 1 to 4 of them". Shut, so that its text stays out of goals.
+unfoldable pub utf8 : ℕ → List ℕ
 utf8 n =
     cond (ltb n 128) (n ∷ [])
     (cond (ltb n 2048) ((192 + n / 64) ∷ (128 + n % 64) ∷ [])
@@ -128,6 +128,10 @@ abbrev pub decode : (limit : ℕ) → List ℕ → List ℕ
 decode limit cs = joined (tokensFrom limit 0 cs)
 
 -- ---- the tail held back
+
+-- Every form starts with `&`, and has no other: a byte that begins none, and stands in none but first.
+abbrev pub notAmp : ℕ → Bool
+notAmp c = not (eqb c (byteOf "&"))
 
 -- It "could still grow into a form": one byte more, at least, would make it one.
 pub record CanGrow (limit : ℕ) (cs : List ℕ) : Type 0 where
