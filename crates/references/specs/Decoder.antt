@@ -69,6 +69,8 @@ pub record Decoded (raw out : List ℕ) (r : ℕ) (out′ : List ℕ) : Type 0 w
   pub few : r ≤ length raw
   pub list : out′ ≡ overwrite out (decoded raw)
 
+-- ---- what the public call promises
+
 -- "Every refusal has zero counts beside its number and place, place 0 where none is given"
 abbrev pub refusing : (number : ℕ) → Answer
 refusing n = record { number = n; place = 0; count = 0; windows = 0 }
