@@ -1,6 +1,6 @@
 -- References and growing tails in a list that is cut in two. What is said of a legal reference goes through `legal` alone. Assumes nothing.
 use mathlib.Core.Path.{_≡_, refl, sym, ap, subst, _∙_}
-use mathlib.Core.Bool.{Bool, not}
+use mathlib.Core.Bool.{not}
 use mathlib.Core.Logic.{_≢_}
 use mathlib.Core.List.{List, [], _∷_, _++_, append-assoc, append-nil, cons≢nil, tail-eq-of-cons-eq, head-eq-of-cons-eq, append-ne-nil-of-right-ne-nil}
 use Prim.Native.Nat.{ℕ, _+_, _≤_, _<_}

@@ -5,7 +5,7 @@ use mathlib.Core.List.{List, [], _∷_}
 use Prim.Native.Nat.{ℕ, suc, _+_, _-_, _*_, _≤_, _<_}
 use native.Mathlib.Numerals.{add-one}
 use native.Mathlib.Omega.{arith}
-use native.Mathlib.Decide.{decLt}
+use native.Mathlib.Decide.{decLe}
 use lib.Dec.{leb, eqb}
 use lib.ListN.{length, drop, getD, drop-of-length-le, List·getD-eq-default}
 use lib.Seq.{drop-cons}
@@ -17,7 +17,7 @@ use Rattle.model.proofs.Truth.{branch}
 use Rattle.model.proofs.Forms.{number-true, number-false, not-none, found-number}
 use Rattle.references.specs.declared.Reference.{Reference}
 use Rattle.references.specs.declared.Reference.the-variants.{Code, Plain, Open}
-use Rattle.references.specs.Reader.{readAs, Compared, okOf, baseOf, DigitIs, capped, GrownIs, numberReading}
+use Rattle.references.specs.Reader.{codeLimit, readAs, Compared, okOf, baseOf, DigitIs, capped, GrownIs, numberReading}
 
 -- `peek` past the end
 pub past : (s : List ℕ) (i : ℕ) → length s ≤ i → 0 ≡ getD s i 0
@@ -158,13 +158,19 @@ module _ (c : ℕ) where
 
 -- ---- `cap`, `grown`
 
-pub cap-over : (n : ℕ) → 1114111 < n → GrownIs n 1114112
+capped-under : (n : ℕ) → n < codeLimit → capped n ≡ n
 unfolding capped
-cap-over n h = record { is = rw (lt-ltb 1114111 n h); small = omega arith }
+capped-under n h = rw (lt-ltb n codeLimit h)
 
-pub cap-under : (n : ℕ) → n ≤ 1114111 → GrownIs n n
+capped-over : (n : ℕ) → codeLimit ≤ n → capped n ≡ codeLimit
 unfolding capped
-cap-under n h = record { is = rw (le-ltb 1114111 n h); small = omega arith }
+capped-over n h = rw (le-ltb n codeLimit h)
+
+pub cap-under : (n : ℕ) → n < codeLimit → GrownIs n n
+cap-under n h = record { is = sym (capped-under n h); small = omega arith }
+
+pub cap-over : (n : ℕ) → codeLimit ≤ n → GrownIs n codeLimit
+cap-over n h = record { is = sym (capped-over n h); small = omega arith }
 
 pub grown-hex : (hex : Bool) (value d r : ℕ) → hex ≡ true → GrownIs (value * 16 + d) r → GrownIs (value * baseOf hex + d) r
 grown-hex true value d r e g = g
@@ -174,21 +180,13 @@ pub grown-decimal : (hex : Bool) (value d r : ℕ) → hex ≡ false → GrownIs
 grown-decimal true value d r e g = absurd (mathlib.Core.Bool.true≢false e)
 grown-decimal false value d r e g = g
 
-capped-under : (n : ℕ) → n ≤ 1114111 → capped n ≡ n
-unfolding capped
-capped-under n h = rw (le-ltb 1114111 n h)
-
-capped-over : (n : ℕ) → 1114111 < n → capped n ≡ 1114112
-unfolding capped
-capped-over n h = rw (lt-ltb 1114111 n h)
-
 -- a digit more is the same after the cap as before it
 capped-more : (hex : Bool) (v d : ℕ) → capped (capped v * baseOf hex + d) ≡ capped (v * baseOf hex + d)
-capped-more hex v d = go hex (decLt 1114111 v)
+capped-more hex v d = go hex (decLe codeLimit v)
   where
-    go : (hex : Bool) → Dec (1114111 < v) → capped (capped v * baseOf hex + d) ≡ capped (v * baseOf hex + d)
-    go true (yes h) = rw (capped-over v h) (capped-over (1114112 * 16 + d) (omega arith) ∙ sym (capped-over (v * 16 + d) (omega arith)))
-    go false (yes h) = rw (capped-over v h) (capped-over (1114112 * 10 + d) (omega arith) ∙ sym (capped-over (v * 10 + d) (omega arith)))
+    go : (hex : Bool) → Dec (codeLimit ≤ v) → capped (capped v * baseOf hex + d) ≡ capped (v * baseOf hex + d)
+    go true (yes h) = rw (capped-over v h) (capped-over (codeLimit * 16 + d) (omega arith) ∙ sym (capped-over (v * 16 + d) (omega arith)))
+    go false (yes h) = rw (capped-over v h) (capped-over (codeLimit * 10 + d) (omega arith) ∙ sym (capped-over (v * 10 + d) (omega arith)))
     go hex (no h) = rw (capped-under v (omega arith))
 
 -- ---- `is_char`
@@ -240,25 +238,25 @@ module _ (n k : ℕ) (r : Bool) (y : r ≡ isChar n) where
   not-legal t = rw (← y, t)
 
 -- a number over all code points is no Char, so the cap changes nothing
-over-no-char : (n : ℕ) → 1114111 < n → isChar n ≡ false
+over-no-char : (n : ℕ) → codeLimit ≤ n → isChar n ≡ false
 over-no-char n h =
-    sym (char-over n (λ e. omega arith) (λ e. omega arith) (λ e. omega arith) (omega arith) (omega arith) (omega arith) (omega arith) (omega arith) h)
+    sym (char-over n (λ e. omega arith) (λ e. omega arith) (λ e. omega arith) (omega arith) (omega arith) (omega arith) (omega arith) (omega arith) (omega arith))
 
-over-not-legal : (n k : ℕ) → 1114111 < n → legal n k ≡ none
+over-not-legal : (n k : ℕ) → codeLimit ≤ n → legal n k ≡ none
 over-not-legal n k h = rw (over-no-char n h)
 
 capped-legal : (v k : ℕ) → legal (capped v) k ≡ legal v k
-capped-legal v k = go (decLt 1114111 v)
+capped-legal v k = go (decLe codeLimit v)
   where
-    go : Dec (1114111 < v) → legal (capped v) k ≡ legal v k
+    go : Dec (codeLimit ≤ v) → legal (capped v) k ≡ legal v k
     go (yes h) = ap (λ (n : ℕ). legal n k) (capped-over v h) ∙ sym (over-not-legal v k h)
     go (no h) = ap (λ (n : ℕ). legal n k) (capped-under v (omega arith))
 
 -- what a legal form is decoded as is a code point
-pub legal-small : (m k n : ℕ) → legal m k ≡ found n k → n < 1114112
-legal-small m k n e = go (decLt 1114111 m)
+pub legal-small : (m k n : ℕ) → legal m k ≡ found n k → n < codeLimit
+legal-small m k n e = go (decLe codeLimit m)
   where
-    go : Dec (1114111 < m) → n < 1114112
+    go : Dec (codeLimit ≤ m) → n < codeLimit
     go (yes h) = not-none (sym (over-not-legal m k h) ∙ e)
     go (no h) = branch (isChar m) e (λ t q. let z = found-number q in omega arith) (λ t q. not-none q)
 
@@ -270,7 +268,7 @@ pub record Numbering (hex : Bool) (from : ℕ) (s : List ℕ) (value i : ℕ) : 
   pub above : from ≤ i
   pub within-s : i ≤ length s
   pub is : value ≡ capped spelt
-  pub small : value ≤ 1114112
+  pub small : value ≤ codeLimit
   pub rest : numberFrom (okOf hex) (baseOf hex) spelt i (i - from) (drop i s) ≡ numberFrom (okOf hex) (baseOf hex) 0 from 0 (drop from s)
   pub digits : all (okOf hex) (drop i s) ≡ all (okOf hex) (drop from s)
 

@@ -4,6 +4,7 @@ use mathlib.Core.List.{List, [], _++_}
 use Prim.Native.Nat.{ℕ, _+_, _≤_, _<_}
 use lib.ListN.{length, take, drop}
 use Rattle.model.specs.References.{formLimit, heldMost, utf8, heldTail, letOut}
+use Rattle.references.specs.Reader.{codeLimit}
 use Rattle.references.specs.declared.Held.{Held}
 use Rattle.references.specs.declared.Across.{Across}
 use Rattle.references.specs.declared.Across.the-variants.{Completed, Passed, Growing}
@@ -32,7 +33,7 @@ pub record CompletedIs (h piece : List ℕ) (code taken : ℕ) : Type 0 where
   pub holds : heldTail formLimit (h ++ piece) ≡ heldTail formLimit (drop taken piece)
   pub fits : taken ≤ length piece
   pub few : length (utf8 code) ≤ length h + taken
-  pub small : code < 1114112
+  pub small : code < codeLimit
 
 -- The held bytes go out as they came; reading goes on at the piece's first byte.
 pub record PassedIs (h piece : List ℕ) : Type 0 where

@@ -6,9 +6,11 @@ use Prim.Native.Nat.{ℕ, _+_, _≤_, _<_}
 use lib.Dec.{T, eqb}
 use lib.ListN.{length, take, drop, getD}
 use lib.Seq.{sets}
+use Rattle.model.specs.Ascii.{byteOf}
 use Rattle.model.specs.Occurrence.{all}
 use Rattle.model.specs.References.{formLimit, utf8, decode, notAmp}
 use Rattle.model.specs.NumberedAnswers.{wholeRefusal, overwrite}
+use Rattle.references.specs.Reader.{codeLimit}
 use Rattle.references.specs.declared.Place.{Place}
 use Rattle.references.specs.declared.Answer.{Answer}
 
@@ -18,7 +20,7 @@ decoded raw = decode formLimit raw
 
 -- what `put_utf8` asks: a code point, and room for its bytes
 pub record PutFine (out : List ℕ) (code : ℕ) : Type 0 where
-  pub small : code < 1114112
+  pub small : code < codeLimit
   pub room : length (utf8 code) ≤ length out
 
 -- `put_utf8`: the result r and the buffer at exit
@@ -39,7 +41,7 @@ pub record PlainIs (s : List ℕ) (r : ℕ) : Type 0 where
 pub record RunIs (s : List ℕ) (r : ℕ) : Type 0 where
   pub fits : r ≤ length s
   pub plain : T (all notAmp (take r s))
-  pub stops : r < length s → getD s r 0 ≡ 38
+  pub stops : r < length s → getD s r 0 ≡ byteOf "&"
 
 -- `copy_blocks`: so many plain bytes stand at the buffer's front
 pub record Copied (raw out : List ℕ) (r : ℕ) (out′ : List ℕ) : Type 0 where
@@ -66,6 +68,8 @@ pub record Decoded (raw out : List ℕ) (r : ℕ) (out′ : List ℕ) : Type 0 w
   pub count : r ≡ length (decoded raw)
   pub few : r ≤ length raw
   pub list : out′ ≡ overwrite out (decoded raw)
+
+-- ---- what the public call promises
 
 -- "Every refusal has zero counts beside its number and place, place 0 where none is given"
 abbrev pub refusing : (number : ℕ) → Answer

@@ -5,11 +5,16 @@ use mathlib.Core.List.{List}
 use Prim.Native.Nat.{ℕ, _+_, _≤_, _<_}
 use lib.Dec.{leb, ltb, eqb}
 use lib.ListN.{length, drop, getD}
+use Rattle.model.specs.Ascii.{byteOf}
 use Rattle.model.specs.Occurrence.{all}
 use Rattle.model.specs.RuleText.{isDecimal}
 use Rattle.model.specs.References.{formLimit, isHexadecimal, digitValue, Found, none, found, numberFrom, beginsWith, within, legalBy, referenceAt, utf8, shorterOf, lacking, canGrow}
 use Rattle.references.specs.declared.Reference.{Reference}
 use Rattle.references.specs.declared.Reference.the-variants.{Code, Plain, Open}
+
+-- The first number over all code points: the last Char is 1114111.
+abbrev pub codeLimit : ℕ
+codeLimit = 1114112
 
 -- The answer from what is found and whether the bytes can grow.
 abbrev pub readAs : Found → Bool → Reference
@@ -24,7 +29,7 @@ reading limit s = readAs (referenceAt limit s) (canGrow limit s)
 -- What a caller wants to know of a reference: it takes at least one byte and no more than there are, gives no more bytes than it takes, and
 -- its number is a code point.
 abbrev pub Moves : List ℕ → Reference → Type 0
-Moves s (Code n k) = (1 ≤ k) × (k ≤ length s) × (length (utf8 n) ≤ k) × (n < 1114112)
+Moves s (Code n k) = (1 ≤ k) × (k ≤ length s) × (length (utf8 n) ≤ k) × (n < codeLimit)
 Moves s Plain = Unit {0}
 Moves s Open = Unit {0}
 
@@ -37,8 +42,8 @@ pub record ReadIs (s : List ℕ) (r : Reference) : Type 0 where
 
 -- where `read_name` reads: a `&`, and no `#` after it
 pub record NamePlace (s : List ℕ) : Type 0 where
-  pub amp : getD s 0 0 ≡ 38
-  pub no-mark : getD s 1 0 ≡ 35 → ⊥
+  pub amp : getD s 0 0 ≡ byteOf "&"
+  pub no-mark : getD s 1 0 ≡ byteOf "#" → ⊥
 
 -- where `read_number` reads: after a mark of `from` bytes, in no more bytes than a form has
 pub record NumberPlace (s : List ℕ) (from : ℕ) : Type 0 where
@@ -64,13 +69,13 @@ pub record DigitIs (hex : Bool) (c r : ℕ) : Type 0 where
   pub says : okOf hex c ≡ ltb r 16
   pub value : r < 16 → r ≡ digitValue c
 
--- A number, or the first that is over all code points if it is any of those.
+-- A number, or the limit for any number from there on.
 unfoldable pub capped : ℕ → ℕ
-capped n = cond (ltb 1114111 n) 1114112 n
+capped n = cond (ltb n codeLimit) n codeLimit
 
 pub record GrownIs (n r : ℕ) : Type 0 where
   pub is : r ≡ capped n
-  pub small : r ≤ 1114112
+  pub small : r ≤ codeLimit
 
 -- `read_number`: digits from `from` on
 unfoldable pub numberReading : (hex : Bool) (from : ℕ) → List ℕ → Reference

@@ -5,8 +5,9 @@ ghost use mathlib.Core.Bool.{false};
 ghost use Prim.Native.Nat.{_+_, _*_, _<_, _≤_};
 ghost use lib.ListN.{length, take, drop, getD};
 ghost use lib.Seq.{sets};
+ghost use Rattle.model.specs.Ascii.{byteOf};
 ghost use Rattle.model.specs.References.{formLimit, heldMost, isChar, legal};
-ghost use Rattle.references.specs.Reader.{Compared, DigitIs, GrownIs, baseOf, readAs, numberReading, NamePlace, NumberPlace, ReadIs};
+ghost use Rattle.references.specs.Reader.{codeLimit, Compared, DigitIs, GrownIs, baseOf, readAs, numberReading, NamePlace, NumberPlace, ReadIs};
 ghost use Rattle.references.specs.Decoder.{PutFine, Put, Looked, PlainIs, RunIs, Copied, RunCopied, TokenIs, Decoded, DecodeIs};
 ghost use Rattle.references.specs.Crosses.{HeldFine, JoinIs, CrossIs};
 
@@ -78,20 +79,23 @@ fn digit(c: u8, hex: bool) -> u32
     16
 }
 
-// A number, or 1,114,112 for any number from there on: none of these is a Char.
+// The first number over all code points.
+const CODE_LIMIT: u32 = 1_114_112;
+
+// A number, or the limit for any number from there on: none of these is a Char.
 fn cap(n: u32) -> u32
     ensures { λ r. ⌜ GrownIs n r ⌝ }
 {
-    if n > 1114111 {
-        return 1114112;
+    if n < CODE_LIMIT {
+        return n;
     }
-    n
+    CODE_LIMIT
 }
 
 // The number with one digit more. It never passes the cap, so a longer form (32 bytes, say) could not
 // overflow it either.
 fn grown(value: u32, d: u32, hex: bool) -> u32
-    requires { ⌜ value ≤ 1114112 ⌝ }
+    requires { ⌜ value ≤ codeLimit ⌝ }
     requires { ⌜ d < 16 ⌝ }
     ensures { λ r. ⌜ GrownIs (value * baseOf hex + d) r ⌝ }
 {
@@ -392,7 +396,7 @@ pub struct Place {
 fn amp_token(raw: &[u8], i: usize, out: &mut [u8], at: usize) -> Place
     requires { ⌜ i < length (now raw) ⌝ }
     requires { ⌜ at + length (now raw) ≤ length (now out) + i ⌝ }
-    requires { ⌜ getD (now raw) i 0 ≡ 38 ⌝ }
+    requires { ⌜ getD (now raw) i 0 ≡ byteOf "&" ⌝ }
     ensures { λ r. ⌜ TokenIs (now (raw .entry)) i (now (out .entry)) at r (now (out .exit)) ⌝ }
 {
     let found = read_reference(&raw[i..]);

@@ -4,10 +4,10 @@ use Rattle.references.proofs.cap.Statement.{statement}
 use Rattle.references.proofs.cap.Tie as tie
 
 returns : tie.Need-returns
-returns c = search cap-over
+returns c = search cap-under
 
 returns-2 : tie.Need-returns-2
-returns-2 c = search cap-under
+returns-2 c = search cap-over
 
 pub cap-spec : {M : Type 1} → statement M
 cap-spec = tie.close (tie.spec returns returns-2)

@@ -1,4 +1,4 @@
--- `references_examples::line_end` meets its contract. Its laws are in this crate's `proofs/`; `search LAW` finds a law's premises in `c`. Assumes nothing.
+-- `references_examples::line_end` is safe, and keeps what its contract promises. Assumes nothing.
 use Rattle.references_examples.specs.Lines.{LineEnd}
 use lib.ListN.{length}
 use Prim.Native.Nat.{_-_}

@@ -1,4 +1,4 @@
--- `references_examples::print_bytes` meets its contract. Its laws are in this crate's `proofs/`; `search LAW` finds a law's premises in `c`. Assumes nothing.
+-- `references_examples::print_bytes` is safe, and keeps what its contract promises. Assumes nothing.
 use lib.ListN.{length}
 use Prim.Native.Nat.{_-_}
 use borrow.Author.Needs.{needs}

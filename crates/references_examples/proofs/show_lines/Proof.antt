@@ -1,4 +1,4 @@
--- `references_examples::show_lines` meets its contract. Its laws are in this crate's `proofs/`; `search LAW` finds a law's premises in `c`. Assumes nothing.
+-- `references_examples::show_lines` is safe, and keeps what its contract promises. Assumes nothing.
 use mathlib.Core.Path.{_≡_}
 use lib.ListN.{length}
 use Prim.Native.Nat.{_-_}
