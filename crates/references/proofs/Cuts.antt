@@ -29,7 +29,7 @@ module _ (limit : ℕ) where
       go false q ih = omega (arith, ap length (tail-false limit c cs q))
 
   -- Nothing stands before a list that is all held, and it lets nothing out.
-  all-held : (xs : List ℕ) → heldTail limit xs ≡ xs → letOut limit xs ≡ []
+  pub all-held : (xs : List ℕ) → heldTail limit xs ≡ xs → letOut limit xs ≡ []
   all-held xs e =
       let n : length xs - length (heldTail limit xs) ≡ 0 = omega (arith, ap length e) in
       ap (λ (i : ℕ). decode limit (take i xs)) n

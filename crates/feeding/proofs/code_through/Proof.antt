@@ -1,0 +1,55 @@
+-- `feeding::code_through` meets its contract. Assumes nothing.
+use mathlib.Core.Path.{refl, ap}
+use native.Mathlib.Omega.{arith}
+use lib.ListN.{length, length-take}
+use Rattle.model.proofs.Decoding.{utf8-four}
+use Rattle.feeding.proofs.Pieces.{code-long, code-bytes, coded}
+use borrow.Author.Needs.{needs}
+use Rattle.feeding.proofs.code_through.Statement.{statement}
+use Rattle.feeding.proofs.code_through.Tie as tie
+use Rattle.feeding.proofs.code_through.Reads as reads
+use Rattle.feeding.proofs.code_through.Lts as lts
+use Rattle.feeding.proofs.through.Reads as through-reads
+use Rattle.references.proofs.put_utf8.Reads as put-utf8-reads
+
+slice-aggregate-put-utf8 : tie.Need-slice-aggregate-put-utf8
+slice-aggregate-put-utf8 c = search needs
+
+put-utf8-requires : tie.Need-put-utf8-requires
+put-utf8-requires c κs = record { small = search needs; room = omega (arith, utf8-four (c .before .before .before .args .code)) }
+
+array-share-prefix-t : tie.Need-array-share-prefix-t
+array-share-prefix-t c =
+    let s = c .before .before .before .before .before in
+    let q = code-long (s .args .code) _ _ _ refl (c .before .put-utf8 .ensures) in
+    omega arith
+
+slice-aggregate-through : tie.Need-slice-aggregate-through
+slice-aggregate-through c =
+    let s = c .before .before .before .before .before .before in
+    let q = code-long (s .args .code) _ _ _ refl (c .before .before .put-utf8 .ensures) in
+    simp length-take (omega arith)
+
+through-requires : tie.Need-through-requires
+through-requires c κs =
+    let s = c .before .before .before .before .before .before .before in
+    let q = code-bytes (s .args .code) _ _ _ refl (c .before .before .before .put-utf8 .ensures) in
+    (search needs, (search needs, (omega (arith, ap length q), omega (arith, ap length q))))
+
+same-length : tie.Need-same-length
+same-length c = search needs
+
+returns : tie.Need-returns
+returns c = search coded
+
+pub code-through-spec : {M : Type 1} → statement M
+code-through-spec =
+    tie.close
+    (tie.spec
+    slice-aggregate-put-utf8
+    put-utf8-requires
+    array-share-prefix-t
+    slice-aggregate-through
+    through-requires
+    same-length
+    returns)

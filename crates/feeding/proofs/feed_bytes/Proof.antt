@@ -1,0 +1,92 @@
+-- `feeding::feed_bytes` meets its contract. Assumes nothing.
+use native.Mathlib.Omega.{arith}
+use Rattle.feeding.proofs.Heads.{held-fits, code-fits, fed-completed, fed-passed, fed-growing}
+use borrow.Author.Needs.{needs}
+use Rattle.feeding.proofs.feed_bytes.Statement.{statement}
+use Rattle.feeding.proofs.feed_bytes.Tie as tie
+use Rattle.feeding.proofs.feed_bytes.Reads as reads
+use Rattle.feeding.proofs.feed_bytes.Lts as lts
+use Rattle.feeding.proofs.code_through.Reads as code-through-reads
+use Rattle.feeding.proofs.feed_rest.Reads as feed-rest-reads
+use Rattle.feeding.proofs.through.Reads as through-reads
+use Rattle.references.proofs.cross.Reads as cross-reads
+
+cross-requires : tie.Need-cross-requires
+cross-requires c κs = search needs
+
+enum-known-case : tie.Need-enum-known-case
+enum-known-case c = search needs
+
+code-through-requires : tie.Need-code-through-requires
+code-through-requires c κs =
+    let k = c .before .before in
+    let x = k .before .before in
+    let s = x .before .before .before .before in
+    let q = code-fits (s .args .h) (s .args .piece .now) (x .cross .result) (x .cross .ensures) _ _ (k .case .given .1) in
+    (search needs, (search needs, (q .0, (omega (arith, q .1, q .2), omega (arith, q .1, q .2)))))
+
+feed-rest-requires : tie.Need-feed-rest-requires
+feed-rest-requires c κs =
+    let y = c .before .before .before in
+    let k = y .before .before .before in
+    let x = k .before .before in
+    let s = x .before .before .before .before in
+    let q = code-fits (s .args .h) (s .args .piece .now) (x .cross .result) (x .cross .ensures) _ _ (k .case .given .1) in
+    let z = y .code-through .ensures in
+    let few = z .few in
+    let place = z .place in
+    let long = z .long in
+    (search needs, (search needs, (q .2, (omega (arith, q .1, q .2), omega (arith, q .1, q .2)))))
+
+same-length : tie.Need-same-length
+same-length c = search needs
+
+returns : tie.Need-returns
+returns c = search fed-completed
+
+enum-told : tie.Need-enum-told
+enum-told c = search needs
+
+array-share-prefix-b : tie.Need-array-share-prefix-b
+array-share-prefix-b c = search held-fits
+
+slice-aggregate-through : tie.Need-slice-aggregate-through
+slice-aggregate-through c = search needs
+
+through-requires : tie.Need-through-requires
+through-requires c κs = search needs
+
+feed-rest-requires-2 : tie.Need-feed-rest-requires-2
+feed-rest-requires-2 c κs = search needs
+
+same-length-2 : tie.Need-same-length-2
+same-length-2 c = search needs
+
+returns-2 : tie.Need-returns-2
+returns-2 c = search fed-passed
+
+enum-told-2 : tie.Need-enum-told-2
+enum-told-2 c = search needs
+
+returns-3 : tie.Need-returns-3
+returns-3 c = search fed-growing
+
+pub feed-bytes-spec : {M : Type 1} → statement M
+feed-bytes-spec =
+    tie.close
+    (tie.spec
+    cross-requires
+    enum-known-case
+    code-through-requires
+    feed-rest-requires
+    same-length
+    returns
+    enum-told
+    array-share-prefix-b
+    slice-aggregate-through
+    through-requires
+    feed-rest-requires-2
+    same-length-2
+    returns-2
+    enum-told-2
+    returns-3)

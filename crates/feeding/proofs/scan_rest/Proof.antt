@@ -1,0 +1,59 @@
+-- `feeding::scan_rest` meets its contract. Assumes nothing.
+use native.Mathlib.Omega.{arith}
+use Prim.Native.Nat.{_-_}
+use lib.ListN.{length}
+use Rattle.feeding.proofs.Pieces.{Resting, resting, rest-open, rest-turn, rest-over}
+use borrow.Author.Needs.{needs}
+use Rattle.feeding.proofs.scan_rest.Statement.{statement}
+use Rattle.feeding.proofs.scan_rest.Tie as tie
+use Rattle.feeding.proofs.scan_rest.Reads as reads
+use Rattle.feeding.proofs.scan_rest.Lts as lts
+use Rattle.feeding.proofs.token.Reads as token-reads
+
+abbrev Inv-loop : tie.InvT-loop
+Inv-loop table masks piece from ends₀ s₀ i₀ ends s i = Resting table masks s₀ piece from ends₀ s i ends
+
+abbrev μ-loop : tie.MeasureT-loop
+μ-loop table masks piece from ends₀ s₀ i₀ ends s i = length piece - i
+
+loop-holds : tie.Need-loop-holds Inv-loop μ-loop
+loop-holds c = search resting
+
+token-requires : tie.Need-token-requires Inv-loop μ-loop
+token-requires c κs = search needs
+
+same-length : tie.Need-same-length Inv-loop μ-loop
+same-length c = search needs
+
+returns : tie.Need-returns Inv-loop μ-loop
+returns c = search rest-open
+
+loop-less : tie.Need-loop-less Inv-loop μ-loop
+loop-less c =
+    let x = c .before .before .before .before .token .ensures in
+    let m = x .moves (c .if1 .left) in
+    omega (arith, x .fits)
+
+loop-again : tie.Need-loop-again Inv-loop μ-loop
+loop-again c = search rest-turn
+
+same-length-2 : tie.Need-same-length-2 Inv-loop μ-loop
+same-length-2 c = search needs
+
+returns-2 : tie.Need-returns-2 Inv-loop μ-loop
+returns-2 c = search rest-over
+
+pub scan-rest-spec : {M : Type 1} → statement M
+scan-rest-spec =
+    tie.close
+    (tie.spec
+    Inv-loop
+    μ-loop
+    loop-holds
+    token-requires
+    same-length
+    returns
+    loop-less
+    loop-again
+    same-length-2
+    returns-2)

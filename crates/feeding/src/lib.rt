@@ -1,0 +1,220 @@
+// A piece of a plan, after held bytes: what it lets out is decoded and stepped over, and what it holds
+// back is kept. At any table and masks.
+ghost use mathlib.Core.Path.{_≡_};
+ghost use Prim.Native.Nat.{_+_, _<_, _≤_, _^_};
+ghost use lib.ListN.{length};
+ghost use Rattle.model.specs.References.{utf8};
+ghost use Rattle.references.specs.Reader.{codeLimit};
+ghost use Rattle.references.specs.Crosses.{HeldFine};
+ghost use Rattle.feeding.specs.Feeding.{Stepped, TokenIs, RestIs, RestFed, FedIs};
+use references::Across;
+use references::Held;
+use references::Reference;
+use stepping::Masks;
+
+// Where a call stands: the states, the count of decoded bytes, and the count of ends that it has stored.
+pub struct State {
+    pub d: u64,
+    pub at: u32,
+    pub count: usize,
+}
+
+// Steps over `text`, and stores its ends after those stored.
+pub fn through(table: &[u64], masks: Masks, g: State, text: &[u8], ends: &mut [u32]) -> State
+    requires { ⌜ length (now table) ≡ 256 ⌝ }
+    requires { ⌜ masks .top < 64 ⌝ }
+    requires { ⌜ g .count + length (now text) ≤ length (now ends) ⌝ }
+    requires { ⌜ g .at + length (now text) < 2 ^ 32 ⌝ }
+    ensures { λ r. ⌜ Stepped (now (table .entry)) masks g (now (text .entry)) (now (ends .entry)) r (now (ends .exit)) ⌝ }
+{
+    let count = g.count;
+    let r = stepping::run(table, masks, g.d, g.at, text, &mut ends[count..]);
+    let at = g.at + text.len() as u32;
+    let stored = count + r.count;
+    State {
+        d: r.d,
+        at: at,
+        count: stored,
+    }
+}
+
+// Steps over the UTF-8 bytes of a code point.
+fn code_through(table: &[u64], masks: Masks, g: State, code: u32, ends: &mut [u32]) -> State
+    requires { ⌜ length (now table) ≡ 256 ⌝ }
+    requires { ⌜ masks .top < 64 ⌝ }
+    requires { ⌜ code < codeLimit ⌝ }
+    requires { ⌜ g .count + length (utf8 code) ≤ length (now ends) ⌝ }
+    requires { ⌜ g .at + length (utf8 code) < 2 ^ 32 ⌝ }
+    ensures { λ r. ⌜ Stepped (now (table .entry)) masks g (utf8 code) (now (ends .entry)) r (now (ends .exit)) ⌝ }
+{
+    let mut t = [0u8; 4];
+    let n = references::put_utf8(&mut t, code);
+    through(table, masks, g, &t[..n], ends)
+}
+
+// After one token of a piece: the state, how far the piece is read, and whether the rest of it is held
+// back.
+pub struct Next {
+    pub state: State,
+    pub read: usize,
+    pub held: bool,
+}
+
+// One token of a piece, with nothing held: a run of plain bytes, a reference, or a `&` that begins
+// none; or all the rest, if it can still grow.
+fn token(table: &[u64], masks: Masks, g: State, piece: &[u8], i: usize, ends: &mut [u32]) -> Next
+    requires { ⌜ length (now table) ≡ 256 ⌝ }
+    requires { ⌜ masks .top < 64 ⌝ }
+    requires { ⌜ i < length (now piece) ⌝ }
+    requires { ⌜ g .count + length (now piece) ≤ length (now ends) + i ⌝ }
+    requires { ⌜ g .at + length (now piece) < 2 ^ 32 + i ⌝ }
+    ensures { λ r. ⌜ TokenIs (now (table .entry)) masks g (now (piece .entry)) i (now (ends .entry)) r (now (ends .exit)) ⌝ }
+{
+    if piece[i] != b'&' {
+        let n = references::run_length(&piece[i..]);
+        let e = i + n;
+        let s = through(table, masks, g, &piece[i..e], ends);
+        return Next {
+            state: s,
+            read: e,
+            held: false,
+        };
+    }
+    let found = references::read_reference(&piece[i..]);
+    match found {
+        Reference::Code(code, k) => {
+            let s = code_through(table, masks, g, code, ends);
+            let after = i + k;
+            return Next {
+                state: s,
+                read: after,
+                held: false,
+            };
+        }
+        Reference::Plain => {
+            let e = i + 1;
+            let s = through(table, masks, g, &piece[i..e], ends);
+            return Next {
+                state: s,
+                read: e,
+                held: false,
+            };
+        }
+        Reference::Open => {
+            return Next {
+                state: g,
+                read: i,
+                held: true,
+            };
+        }
+    }
+}
+
+// After the rest of a piece: the state, and from where on the piece is held back.
+pub struct Rest {
+    pub state: State,
+    pub kept: usize,
+}
+
+// The piece from `from` on, with nothing held.
+fn scan_rest(
+    table: &[u64],
+    masks: Masks,
+    g: State,
+    piece: &[u8],
+    from: usize,
+    ends: &mut [u32],
+) -> Rest
+    requires { ⌜ length (now table) ≡ 256 ⌝ }
+    requires { ⌜ masks .top < 64 ⌝ }
+    requires { ⌜ from ≤ length (now piece) ⌝ }
+    requires { ⌜ g .count + length (now piece) ≤ length (now ends) + from ⌝ }
+    requires { ⌜ g .at + length (now piece) < 2 ^ 32 + from ⌝ }
+    ensures { λ r. ⌜ RestIs (now (table .entry)) masks g (now (piece .entry)) from (now (ends .entry)) r (now (ends .exit)) ⌝ }
+{
+    let mut s = g;
+    let mut i = from;
+    while i < piece.len() {
+        let t = token(table, masks, s, piece, i, ends);
+        let u = t.state;
+        if t.held {
+            return Rest {
+                state: u,
+                kept: t.read,
+            };
+        }
+        s = u;
+        i = t.read;
+    }
+    Rest { state: s, kept: i }
+}
+
+// After a piece: the state, and the bytes held back.
+pub struct Fed {
+    pub state: State,
+    pub held: Held,
+}
+
+// The same, and what it holds back is taken out of the piece.
+fn feed_rest(
+    table: &[u64],
+    masks: Masks,
+    g: State,
+    piece: &[u8],
+    from: usize,
+    ends: &mut [u32],
+) -> Fed
+    requires { ⌜ length (now table) ≡ 256 ⌝ }
+    requires { ⌜ masks .top < 64 ⌝ }
+    requires { ⌜ from ≤ length (now piece) ⌝ }
+    requires { ⌜ g .count + length (now piece) ≤ length (now ends) + from ⌝ }
+    requires { ⌜ g .at + length (now piece) < 2 ^ 32 + from ⌝ }
+    ensures { λ r. ⌜ RestFed (now (table .entry)) masks g (now (piece .entry)) from (now (ends .entry)) r (now (ends .exit)) ⌝ }
+{
+    let r = scan_rest(table, masks, g, piece, from, ends);
+    let u = r.state;
+    let kept = r.kept;
+    let none = Held {
+        bytes: [0u8; 10],
+        len: 0,
+    };
+    let j = references::join(none, &piece[kept..]);
+    Fed { state: u, held: j }
+}
+
+// A piece after held bytes: these become a reference with its head, or are let out as they came, or all
+// is held back still.
+pub fn feed_bytes(
+    table: &[u64],
+    masks: Masks,
+    g: State,
+    h: Held,
+    piece: &[u8],
+    ends: &mut [u32],
+) -> Fed
+    requires { ⌜ length (now table) ≡ 256 ⌝ }
+    requires { ⌜ masks .top < 64 ⌝ }
+    requires { ⌜ HeldFine h ⌝ }
+    requires { ⌜ g .count + h .len + length (now piece) ≤ length (now ends) ⌝ }
+    requires { ⌜ g .at + h .len + length (now piece) < 2 ^ 32 ⌝ }
+    ensures { λ r. ⌜ FedIs (now (table .entry)) masks g h (now (piece .entry)) (now (ends .entry)) r (now (ends .exit)) ⌝ }
+{
+    let x = references::cross(h, piece);
+    let case = x.case;
+    match case {
+        Across::Completed(code, taken) => {
+            let s = code_through(table, masks, g, code, ends);
+            return feed_rest(table, masks, s, piece, taken, ends);
+        }
+        Across::Passed => {
+            let b = h.bytes;
+            let l = h.len;
+            let s = through(table, masks, g, &b[..l], ends);
+            return feed_rest(table, masks, s, piece, 0, ends);
+        }
+        Across::Growing => {
+            let j = x.joined;
+            return Fed { state: g, held: j };
+        }
+    }
+}
