@@ -39,17 +39,20 @@ listOf (feed piece n) = n
 listOf (finish n) = n
 
 -- "Needed lengths: .. feed list, the piece's length plus 9; finish list, 9."
-abbrev pub needed : (limit : ℕ) → Call → ℕ
-needed limit c = length (pieceOf c) + heldMost limit
+abbrev pub needed : (limit piece : ℕ) → ℕ
+needed limit piece = piece + heldMost limit
 
 -- "A call is refused by 12 if it has finished, else by 10 if P and the piece together are over the limit, else by 9 if the lent list is shorter than
--- needed": the number for a call on `taken` bytes, or 0.
-abbrev pub refusal : (limit : ℕ) (finished : Bool) (taken : ℕ) → Call → ℕ
-refusal limit finished taken c =
+-- needed": the number for a piece and a list of these lengths after `taken` bytes, or 0.
+abbrev pub refusalFor : (limit : ℕ) (finished : Bool) (taken piece list : ℕ) → ℕ
+refusalFor limit finished taken piece list =
     cond finished 12
-    (cond (ltb textLimit (taken + length (pieceOf c))) 10
-    (cond (ltb (listOf c) (needed limit c)) 9
+    (cond (ltb textLimit (taken + piece)) 10
+    (cond (ltb list (needed limit piece)) 9
     0))
+
+abbrev pub refusal : (limit : ℕ) (finished : Bool) (taken : ℕ) → Call → ℕ
+refusal limit finished taken c = refusalFor limit finished taken (length (pieceOf c)) (listOf c)
 
 -- "Otherwise a feed adds its piece to P, and a finish makes it finished."
 abbrev pub after : Call → Kept → Kept

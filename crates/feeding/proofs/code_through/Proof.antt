@@ -1,4 +1,4 @@
--- `feeding::code_through` meets its contract. Assumes nothing.
+-- `feeding::code_through` meets its contract. Its laws are in this crate's `proofs/`; `search LAW` finds a law's premises in `c`. Assumes nothing.
 use mathlib.Core.Path.{refl, ap}
 use native.Mathlib.Omega.{arith}
 use lib.ListN.{length, length-take}

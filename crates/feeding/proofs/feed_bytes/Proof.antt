@@ -1,4 +1,4 @@
--- `feeding::feed_bytes` meets its contract. Assumes nothing.
+-- `feeding::feed_bytes` meets its contract. Its laws are in this crate's `proofs/`; `search LAW` finds a law's premises in `c`. Assumes nothing.
 use native.Mathlib.Omega.{arith}
 use Rattle.feeding.proofs.Heads.{held-fits, code-fits, fed-completed, fed-passed, fed-growing}
 use borrow.Author.Needs.{needs}

@@ -1,4 +1,4 @@
--- `feeding::feed_rest` meets its contract. Assumes nothing.
+-- `feeding::feed_rest` meets its contract. Its laws are in this crate's `proofs/`; `search LAW` finds a law's premises in `c`. Assumes nothing.
 use Rattle.feeding.proofs.Heads.{rest-fed}
 use borrow.Author.Needs.{needs}
 use Rattle.feeding.proofs.feed_rest.Statement.{statement}

@@ -1,4 +1,4 @@
--- `feeding::scan_rest` meets its contract. Assumes nothing.
+-- `feeding::scan_rest` meets its contract. Its laws are in this crate's `proofs/`; `search LAW` finds a law's premises in `c`. Assumes nothing.
 use native.Mathlib.Omega.{arith}
 use Prim.Native.Nat.{_-_}
 use lib.ListN.{length}

@@ -1,4 +1,4 @@
--- `feeding::through` meets its contract. Assumes nothing.
+-- `feeding::through` meets its contract. Its laws are in this crate's `proofs/`; `search LAW` finds a law's premises in `c`. Assumes nothing.
 use Rattle.feeding.proofs.Steps.{stepped}
 use borrow.Author.Needs.{needs}
 use Rattle.feeding.proofs.through.Statement.{statement}

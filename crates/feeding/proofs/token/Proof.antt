@@ -1,4 +1,4 @@
--- `feeding::token` meets its contract. Assumes nothing.
+-- `feeding::token` meets its contract. Its laws are in this crate's `proofs/`; `search LAW` finds a law's premises in `c`. Assumes nothing.
 use native.Mathlib.Omega.{arith}
 use Rattle.feeding.proofs.Pieces.{token-run, code-steps, token-code, token-plain, token-open}
 use borrow.Author.Needs.{needs}
