@@ -90,7 +90,7 @@ row-past true f ps h = every-reverse f false ps h
 row-past false f ps h = h
 
 -- "for each byte"; and no number from 256 on is one
-table-entry : (flag : ℕ) (rule : List ℕ) (reversed : Bool) (table : List ℕ) → Filled flag rule reversed table → (c : ℕ) → getD table c 0 ≡ admitsMask (rowOf reversed (rulePositions (foldFlag flag) rule)) c
+pub table-entry : (flag : ℕ) (rule : List ℕ) (reversed : Bool) (table : List ℕ) → Filled flag rule reversed table → (c : ℕ) → getD table c 0 ≡ admitsMask (rowOf reversed (rulePositions (foldFlag flag) rule)) c
 table-entry flag rule reversed table t c = elim (decLe 256 c) [
   | yes h ↦
       List·getD-eq-default table 0 {n = c} (omega (arith, ap length (t .is), long-entries ps 256 0))
@@ -109,7 +109,7 @@ module _ (flag : ℕ) (rule : List ℕ) (p : Prepared) (hp : Prepares flag rule 
   unfolding prepared
   is-accepted = accepts (foldFlag flag) rule (sym (ap (λ (y : Prepared). y .number) (hp .is)) ∙ z)
 
-  is-answer : p ≡ answerOf ps
+  pub is-answer : p ≡ answerOf ps
   unfolding prepared
   is-answer = hp .is ∙ ap (preparedBy (foldFlag flag)) (is-accepted .parses) ∙ ap (λ (x : Parsed). answerOf (positionsBy (foldFlag flag) x)) (sym (is-accepted .parses))
 

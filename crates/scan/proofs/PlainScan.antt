@@ -1,0 +1,334 @@
+-- THE THEOREM OF THE SCAN. Over any list of feeds and finishes, from the opening of an accepted rule on, every answer is the plain scan's. About the very
+-- definitions that the contracts of `open`, `feed` and `finish` cite. Assumes nothing.
+use mathlib.Core.Path.{_≡_, refl, sym, ap, ap₂, subst, _∙_}
+use mathlib.Core.Bool.{Bool, true, false, cond}
+use mathlib.Core.List.{List, [], _∷_, _++_, append-nil, append-assoc}
+use Prim.Native.Nat.{ℕ, zero, suc, _+_, _≤_, _<_}
+use native.Mathlib.Numerals.{add-one}
+use native.Mathlib.Omega.{arith}
+use lib.Dec.{eqb, ltb, nltb→le, ltb→lt}
+use lib.ListN.{length, take, getD, length-append}
+use lib.Seq.{getD-append-add, take-append-seam}
+use Rattle.model.specs.Occurrence.{Position, consIf, all, shortest}
+use Rattle.model.specs.RuleText.{foldFlag, positionLimit, isByte, Element, positions, ruleLimit}
+use Rattle.model.specs.NumberedAnswers.{textLimit, Parsed, refused as turned-down, accepted, parse, positionsBy, rulePositions}
+use Rattle.model.specs.References.{formLimit, heldMost, heldTail, withoutTail}
+use Rattle.model.specs.PlainScan.{Call, feed, finish, Answer, refused, reported, pieceOf, listOf, refusal, refusalFor, nothingKept, scanFrom, plainScan}
+use Rattle.model.proofs.Accepted.{rule-ok}
+use Rattle.model.proofs.Refusals.{refusal-row}
+use Rattle.model.proofs.Truth.{branch, and-left, and-right, and-intro}
+use Rattle.model.proofs.Decoding.{decode-length, held-length, tail-joined, held-cut}
+use Rattle.model.proofs.Scans as Scans
+use Rattle.model.proofs.Scans.{Scanner, opened, through, finishes, moved, scannerFrom}
+use Rattle.words.specs.ForwardStep.{onByte, topBit, opening}
+use Rattle.words.specs.Masks.{repeatsMask, optionalMask, Encodes}
+use Rattle.words.proofs.Bridge.{words-are-plain}
+use Rattle.rules.specs.Tables.{tableOf}
+use Rattle.rules.proofs.FillLaws.{long-entries}
+use Rattle.rules.proofs.Encoded.{table-entry}
+use Rattle.stepping.specs.declared.Masks.{Masks}
+use Rattle.stepping.specs.Stepping.{stepN, stateAfter, endsIn}
+use Rattle.feeding.specs.Feeding.{textOf, tailOf}
+use Rattle.scan_values.specs.Value.{scanLength, tableIn, positionsIn, masksIn, stateIn, finishedIn, rawIn, decodedIn, heldIn, possible, numberFor, slots, written}
+use Rattle.scan_values.proofs.Readback.{as-list, written-table, written-state, written-finished, written-raw, written-decoded, written-held, written-long, written-masks, written-possible}
+use Rattle.scan.specs.Calls.{numberOf, outOf, tailAfter, finishedAfter, endsOf, after, runFrom, Bytes, PiecesAreBytes}
+use Rattle.scan.specs.declared.Opened.{Opened}
+use Rattle.scan.specs.Opening.{openingOf, answerBy, leftBy, OpenIs}
+
+-- ---- bytes, tails, sizes
+
+bytes-below : (xs : List ℕ) → Bytes xs → (i : ℕ) → getD xs i 0 < 256
+bytes-below [] b i = omega arith
+bytes-below (x ∷ xs) b zero = ltb→lt x 256 (and-left (isByte x) (all isByte xs) b)
+bytes-below (x ∷ xs) b (suc i) = bytes-below xs (and-right (isByte x) (all isByte xs) b) i
+
+bytes-append : (xs ys : List ℕ) → Bytes xs → Bytes ys → Bytes (xs ++ ys)
+bytes-append [] ys a b = b
+bytes-append (x ∷ xs) ys a b = and-intro (isByte x) (all isByte (xs ++ ys)) (and-left (isByte x) (all isByte xs) a) (bytes-append xs ys (and-right (isByte x) (all isByte xs) a) b)
+
+bytes-right : (xs ys : List ℕ) → Bytes (xs ++ ys) → Bytes ys
+bytes-right [] ys a = a
+bytes-right (x ∷ xs) ys a = bytes-right xs ys (and-right (isByte x) (all isByte (xs ++ ys)) a)
+
+bytes-tail : (xs : List ℕ) → Bytes xs → Bytes (tailOf xs)
+unfolding tailOf
+bytes-tail xs b = bytes-right (withoutTail formLimit xs) (heldTail formLimit xs) (subst Bytes (sym (tail-joined formLimit xs)) b)
+
+tail-tail : (xs : List ℕ) → heldTail formLimit (tailOf xs) ≡ tailOf xs
+unfolding tailOf
+tail-tail xs = sym (ap (heldTail formLimit) (sym (append-nil xs)) ∙ held-cut formLimit xs [] ∙ ap (heldTail formLimit) (append-nil (heldTail formLimit xs)))
+
+tail-nine : (xs : List ℕ) → length (tailOf xs) ≤ heldMost formLimit
+unfolding tailOf
+tail-nine xs = held-length formLimit xs
+
+no-longer : (xs : List ℕ) → length (textOf xs) + length (tailOf xs) ≤ length xs
+unfolding textOf tailOf
+no-longer xs =
+    omega (arith, decode-length formLimit (withoutTail formLimit xs), ap length (tail-joined formLimit xs), length-append (withoutTail formLimit xs) (heldTail formLimit xs))
+
+-- ---- a scan value and the model's scanner on the same words
+
+flagNumber : Bool → ℕ
+flagNumber true = 1
+flagNumber false = 0
+
+module _ (t : List ℕ) (m : Masks) (some : 1 ≤ m .top) (few : m .top ≤ positionLimit) where
+  step : ℕ → ℕ → ℕ
+  step d c = onByte 64 (λ c. getD t c 0) (m .repeats) (m .optional) true d c
+
+  Top : ℕ → Bool
+  Top d = topBit (m .top) d
+
+  runs : (out : List ℕ) (d : ℕ) → stateAfter t m d out ≡ Scans.run formLimit ℕ step Top d out
+  unfolding stateAfter stepN step
+  runs [] d = refl
+  runs (c ∷ out) d = runs out (step d c)
+
+  ends-run : (out : List ℕ) (d at : ℕ) → endsIn t m d at out ≡ Scans.endsIn formLimit ℕ step Top d at out
+  unfolding endsIn stepN step Top
+  ends-run [] d at = refl
+  ends-run (c ∷ out) d at =
+      ap₂ (λ (i : ℕ) (l : List ℕ). consIf (topBit (m .top) (step d c)) i l) (add-one at)
+      (ends-run out (step d c) (at + 1) ∙ ap (λ (i : ℕ). Scans.endsIn formLimit ℕ step Top (step d c) i out) (add-one at))
+
+  record Mirrors (s : List ℕ) (k : Scanner ℕ) : Type 0 where
+    long : length s ≡ scanLength
+    table : tableIn s ≡ t
+    masks : masksIn s ≡ m
+    possible-is : possible s ≡ true
+    state : stateIn s ≡ k .state
+    finished : finishedIn s ≡ flagNumber (k .finished)
+    raw : rawIn s ≡ k .taken
+    decoded : decodedIn s ≡ k .decoded
+    held : heldIn s ≡ k .held
+    bytes : Bytes (heldIn s)
+    sum : decodedIn s + length (heldIn s) ≤ rawIn s
+
+  -- what a call lets out and holds is the scanner's
+  out-is : (s : List ℕ) (h : List ℕ) → heldIn s ≡ h → (c : Call) → outOf s c ≡ through formLimit h c .out
+  unfolding textOf
+  out-is s h e (feed piece n) = ap (λ (h : List ℕ). textOf (h ++ piece)) e
+  out-is s h e (finish n) = e
+
+  tail-is : (s : List ℕ) (h : List ℕ) → heldIn s ≡ h → (c : Call) → tailAfter s c ≡ through formLimit h c .held
+  unfolding tailOf
+  tail-is s h e (feed piece n) = ap (λ (h : List ℕ). tailOf (h ++ piece)) e
+  tail-is s h e (finish n) = refl
+
+  after-bytes : (s : List ℕ) → Bytes (heldIn s) → (c : Call) → Bytes (pieceOf c) → Bytes (tailAfter s c)
+  after-bytes s h (feed piece n) b = bytes-tail (heldIn s ++ piece) (bytes-append (heldIn s) piece h b)
+  after-bytes s h (finish n) b = tt
+
+  after-tail : (s : List ℕ) (c : Call) → heldTail formLimit (tailAfter s c) ≡ tailAfter s c
+  after-tail s (feed piece n) = tail-tail (heldIn s ++ piece)
+  after-tail s (finish n) = refl
+
+  after-nine : (s : List ℕ) (c : Call) → length (tailAfter s c) ≤ heldMost formLimit
+  after-nine s (feed piece n) = tail-nine (heldIn s ++ piece)
+  after-nine s (finish n) = omega arith
+
+  after-sum : (s : List ℕ) → decodedIn s + length (heldIn s) ≤ rawIn s → (c : Call) → decodedIn s + length (outOf s c) + length (tailAfter s c) ≤ rawIn s + length (pieceOf c)
+  after-sum s a (feed piece n) = omega (arith, no-longer (heldIn s ++ piece), length-append (heldIn s) piece)
+  after-sum s a (finish n) = omega arith
+
+  finished-is : (c : Call) → finishedAfter c ≡ flagNumber (finishes formLimit ℕ step Top c)
+  unfolding flagNumber
+  finished-is (feed piece n) = refl
+  finished-is (finish n) = refl
+
+  finished-one : (c : Call) → finishedAfter c ≤ 1
+  finished-one (feed piece n) = omega arith
+  finished-one (finish n) = omega arith
+
+  flag-test : (b : Bool) → ltb 0 (flagNumber b) ≡ b
+  unfolding flagNumber
+  flag-test true = refl
+  flag-test false = refl
+
+  module _ (s : List ℕ) (k : Scanner ℕ) (x : Mirrors s k) (c : Call) where
+    mirror-moved : Bytes (pieceOf c) → rawIn s + length (pieceOf c) ≤ textLimit → Mirrors (after s c) (moved formLimit ℕ step Top k c)
+    mirror-moved b limit =
+        let out = through formLimit (k .held) c .out in
+        let D = stateAfter (tableIn s) (masksIn s) (stateIn s) (outOf s c) in
+        let F = finishedAfter c in
+        let R = rawIn s + length (pieceOf c) in
+        let C = decodedIn s + length (outOf s c) in
+        let H = tailAfter s c in
+        let nine = after-nine s c in
+        let top : positionsIn s ≡ m .top = ap (λ (q : Masks). q .top) (x .masks) in
+        let by = after-bytes s (x .bytes) c b in
+        let sum = after-sum s (x .sum) c in
+        let o = out-is s (k .held) (x .held) c in
+        let hd : heldIn (after s c) ≡ H = written-held s (x .long) D F R C H nine in
+        let r = written-raw s (x .long) D F R C H in
+        let d = written-decoded s (x .long) D F R C H in
+        record {
+          long = written-long s (x .long) D F R C H;
+          table = written-table s (x .long) D F R C H ∙ x .table;
+          masks = written-masks s (x .long) D F R C H ∙ x .masks;
+          possible-is = written-possible s (x .long) D F R C H nine (bytes-below H by) (after-tail s c) (omega (arith, top)) (omega (arith, top)) (finished-one c) limit sum;
+          state =
+              written-state s (x .long) D F R C H
+              ∙ ap₂ (λ (t : List ℕ) (m : Masks). stateAfter t m (stateIn s) (outOf s c)) (x .table) (x .masks)
+              ∙ ap₂ (λ (d : ℕ) (out : List ℕ). stateAfter t m d out) (x .state) o
+              ∙ runs out (k .state);
+          finished = written-finished s (x .long) D F R C H ∙ finished-is c;
+          raw = r ∙ ap (λ (i : ℕ). i + length (pieceOf c)) (x .raw);
+          decoded = d ∙ ap₂ (λ (i : ℕ) (out : List ℕ). i + length out) (x .decoded) o;
+          held = hd ∙ tail-is s (k .held) (x .held) c;
+          bytes = subst Bytes (sym hd) by;
+          sum = omega (arith, ap length hd);
+        }
+
+    ends-are : endsOf s c ≡ Scans.endsIn formLimit ℕ step Top (k .state) (k .decoded) (through formLimit (k .held) c .out)
+    ends-are =
+        ap₂ (λ (t : List ℕ) (m : Masks). endsIn t m (stateIn s) (decodedIn s) (outOf s c)) (x .table) (x .masks)
+        ∙ ap₂ (λ (d at : ℕ). endsIn t m d at (outOf s c)) (x .state) (x .decoded)
+        ∙ ap (endsIn t m (k .state) (k .decoded)) (out-is s (k .held) (x .held) c)
+        ∙ ends-run (through formLimit (k .held) c .out) (k .state) (k .decoded)
+
+    numbers : numberOf s c ≡ refusal formLimit (k .finished) (k .taken) c
+    unfolding numberFor
+    numbers =
+        ap (λ (b : Bool). cond b (refusalFor formLimit (ltb 0 (finishedIn s)) (rawIn s) (length (pieceOf c)) (listOf c)) 11) (x .possible-is)
+        ∙ ap₂ (λ (b : Bool) (n : ℕ). refusalFor formLimit b n (length (pieceOf c)) (listOf c)) (ap (ltb 0) (x .finished) ∙ flag-test (k .finished)) (x .raw)
+
+    -- an accepted call is within the limit
+    within : refusal formLimit (k .finished) (k .taken) c ≡ 0 → rawIn s + length (pieceOf c) ≤ textLimit
+    within e =
+        let r = x .raw in
+        branch (k .finished) e (λ t q. absurd (omega arith)) λ t e.
+        branch (ltb textLimit (k .taken + length (pieceOf c))) e (λ t q. absurd (omega arith)) λ t e.
+        let l = nltb→le textLimit (k .taken + length (pieceOf c)) t in omega arith
+
+  run-zero : (s : List ℕ) (c : Call) (cs : List Call) → numberOf s c ≡ 0 → runFrom s (c ∷ cs) ≡ reported (endsOf s c) ∷ runFrom (after s c) cs
+  run-zero s c cs q = rw (q, runFrom)
+
+  run-suc : (s : List ℕ) (c : Call) (cs : List Call) (n : ℕ) → numberOf s c ≡ suc n → runFrom s (c ∷ cs) ≡ refused (suc n) ∷ runFrom s cs
+  run-suc s c cs n q = rw (q, runFrom)
+
+  scanner-zero : (k : Scanner ℕ) (c : Call) (cs : List Call) → refusal formLimit (k .finished) (k .taken) c ≡ 0
+      → scannerFrom formLimit ℕ step Top k (c ∷ cs) ≡ reported (Scans.endsIn formLimit ℕ step Top (k .state) (k .decoded) (through formLimit (k .held) c .out)) ∷ scannerFrom formLimit ℕ step Top (moved formLimit ℕ step Top k c) cs
+  scanner-zero k c cs q = rw (q, scannerFrom)
+
+  scanner-suc : (k : Scanner ℕ) (c : Call) (cs : List Call) (n : ℕ) → refusal formLimit (k .finished) (k .taken) c ≡ suc n
+      → scannerFrom formLimit ℕ step Top k (c ∷ cs) ≡ refused (suc n) ∷ scannerFrom formLimit ℕ step Top k cs
+  scanner-suc k c cs n q = rw (q, scannerFrom)
+
+  runs-agree : (cs : List Call) (s : List ℕ) (k : Scanner ℕ) → PiecesAreBytes cs → Mirrors s k → runFrom s cs ≡ scannerFrom formLimit ℕ step Top k cs
+  runs-agree [] s k b x = refl
+  runs-agree (c ∷ cs) s k b x = go (refusal formLimit (k .finished) (k .taken) c) refl (λ s k. runs-agree cs s k (b .1))
+    where
+      go : (r : ℕ) → refusal formLimit (k .finished) (k .taken) c ≡ r → ((s : List ℕ) (k : Scanner ℕ) → Mirrors s k → runFrom s cs ≡ scannerFrom formLimit ℕ step Top k cs)
+          → runFrom s (c ∷ cs) ≡ scannerFrom formLimit ℕ step Top k (c ∷ cs)
+      go zero q ih =
+          run-zero s c cs (numbers s k x c ∙ q)
+          ∙ ap₂ (λ (a : List ℕ) (l : List Answer). reported a ∷ l) (ends-are s k x c) (ih (after s c) (moved formLimit ℕ step Top k c) (mirror-moved s k x c (b .0) (within s k x c q)))
+          ∙ sym (scanner-zero k c cs q)
+      go (suc n) q ih =
+          run-suc s c cs n (numbers s k x c ∙ q)
+          ∙ ap (λ (l : List Answer). refused (suc n) ∷ l) (ih s k x)
+          ∙ sym (scanner-suc k c cs n q)
+
+-- ---- from the opening on
+
+module _ (ps : List Position) where
+  abbrev masks : Masks
+  masks = record { repeats = repeatsMask ps; optional = optionalMask ps; top = length ps }
+
+  abbrev front : List ℕ
+  front = repeatsMask ps ∷ optionalMask ps ∷ length ps ∷ []
+
+  abbrev plan : List ℕ
+  plan = opening 64 (optionalMask ps) ∷ 0 ∷ 0 ∷ 0 ∷ 0 ∷ slots (heldMost formLimit) []
+
+  by-parts : openingOf ps ≡ (tableOf ps ++ front) ++ plan
+  unfolding openingOf
+  by-parts = sym (append-assoc (tableOf ps) front plan)
+
+  opening-long : length (openingOf ps) ≡ scanLength
+  unfolding slots
+  opening-long = ap length by-parts ∙ omega (arith, length-append (tableOf ps ++ front) plan, length-append (tableOf ps) front, long-entries ps 256 0)
+
+  opening-table : tableIn (openingOf ps) ≡ tableOf ps
+  unfolding openingOf
+  opening-table = ap (λ (n : ℕ). take n (openingOf ps)) (sym (long-entries ps 256 0)) ∙ take-append-seam (tableOf ps) (front ++ plan)
+
+  opening-at : (k : ℕ) → getD (openingOf ps) (256 + k) 0 ≡ getD (front ++ plan) k 0
+  unfolding openingOf
+  opening-at k = ap (λ (n : ℕ). getD (openingOf ps) (n + k) 0) (sym (long-entries ps 256 0)) ∙ getD-append-add (tableOf ps) (front ++ plan) k 0
+
+  -- written again, it is what it was
+  again : written (openingOf ps) (opening 64 (optionalMask ps)) 0 0 0 [] ≡ openingOf ps
+  again =
+      let n : length (tableOf ps ++ front) ≡ 259 = omega (arith, length-append (tableOf ps) front, long-entries ps 256 0) in
+      as-list (openingOf ps) opening-long (opening 64 (optionalMask ps)) 0 0 0 []
+      ∙ ap (λ (l : List ℕ). l ++ plan) (ap (take 259) by-parts ∙ ap (λ (n : ℕ). take n ((tableOf ps ++ front) ++ plan)) (sym n) ∙ take-append-seam (tableOf ps ++ front) plan)
+      ∙ sym by-parts
+
+  module _ (some : 1 ≤ length ps) (few : length ps ≤ positionLimit) where
+    opening-mirrors : Mirrors (tableOf ps) masks some few (openingOf ps) (opened (opening 64 (optionalMask ps)))
+    unfolding flagNumber
+    opening-mirrors =
+        let s = openingOf ps in
+        let D = opening 64 (optionalMask ps) in
+        let l = opening-long in
+        let top : positionsIn s ≡ length ps = opening-at 2 in
+        let none : heldIn s ≡ [] = ap heldIn (sym again) ∙ written-held s l D 0 0 0 [] (omega arith) in
+        let raw : rawIn s ≡ 0 = ap rawIn (sym again) ∙ written-raw s l D 0 0 0 [] in
+        let decoded : decodedIn s ≡ 0 = ap decodedIn (sym again) ∙ written-decoded s l D 0 0 0 [] in
+        record {
+          long = l;
+          table = opening-table;
+          masks = rw (opening-at 0, opening-at 1, opening-at 2);
+          possible-is = ap possible (sym again) ∙ written-possible s l D 0 0 0 [] (omega arith) (λ i. omega arith) refl (omega (arith, top)) (omega (arith, top)) (omega arith) (omega arith) (omega arith);
+          state = ap stateIn (sym again) ∙ written-state s l D 0 0 0 [];
+          finished = ap finishedIn (sym again) ∙ written-finished s l D 0 0 0 [];
+          raw = raw;
+          decoded = decoded;
+          held = none;
+          bytes = subst Bytes (sym none) tt;
+          sum = omega (arith, ap length none);
+        }
+
+    from-opening : Encodes 64 ps (λ c. getD (tableOf ps) c 0) (repeatsMask ps) (optionalMask ps) → (cs : List Call) → PiecesAreBytes cs
+        → runFrom (openingOf ps) cs ≡ scanFrom formLimit ps nothingKept cs
+    unfolding step Top
+    from-opening e cs b =
+        runs-agree (tableOf ps) masks some few cs (openingOf ps) (opened (opening 64 (optionalMask ps))) b opening-mirrors
+        ∙ words-are-plain 64 ps (λ c. getD (tableOf ps) c 0) (repeatsMask ps) (optionalMask ps) e formLimit cs
+
+module _ (flag : ℕ) (rule : List ℕ) (bytes : Bytes rule) (cs : List Call) (pieces : PiecesAreBytes cs) where
+  accepted-opens : (es : List Element) → parse (foldFlag flag) rule ≡ accepted es → runFrom (openingOf (positions (foldFlag flag) es)) cs ≡ plainScan flag rule cs
+  accepted-opens es e =
+      let ps = rulePositions (foldFlag flag) rule in
+      let ok = rule-ok (foldFlag flag) rule es bytes e in
+      let q : positions (foldFlag flag) es ≡ ps = sym (ap (positionsBy (foldFlag flag)) e) in
+      ap (λ (ps : List Position). runFrom (openingOf ps) cs) q
+      ∙ from-opening ps (ok .some) (ok .few)
+      (record {
+        fits = omega (arith, ok .few);
+        is-table = table-entry flag rule false (tableOf ps) (record { long = long-entries ps 256 0; is = refl });
+        is-repeats = refl;
+        is-optional = refl;
+      }) cs pieces
+
+  module _ (s : List ℕ) (r : Opened) (s′ : List ℕ) where
+    by-length : (b : Bool) (es : List Element) → parse (foldFlag flag) rule ≡ accepted es
+        → r ≡ cond b (record { number = 0; place = 0; positions = length (positions (foldFlag flag) es); shortest = shortest (positions (foldFlag flag) es) }) (record { number = 11; place = 0; positions = 0; shortest = 0 })
+        → s′ ≡ cond b (openingOf (positions (foldFlag flag) es)) s → r .number ≡ 0 → runFrom s′ cs ≡ plainScan flag rule cs
+    by-length true es e a l z = ap (λ (s : List ℕ). runFrom s cs) l ∙ accepted-opens es e
+    by-length false es e a l z = absurd (omega (arith, sym (ap (λ (o : Opened). o .number) a) ∙ z))
+
+    by-rule : (x : Parsed) → parse (foldFlag flag) rule ≡ x → r ≡ answerBy flag (length s) x → s′ ≡ leftBy flag s x → r .number ≡ 0 → runFrom s′ cs ≡ plainScan flag rule cs
+    by-rule (turned-down n p) e a l z =
+        let q : n ≡ 0 = sym (ap (λ (o : Opened). o .number) a) ∙ z in
+        let row = refusal-row positionLimit (foldFlag flag) ruleLimit rule n p e in
+        let one = row .0 in
+        absurd (omega arith)
+    by-rule (accepted es) e a l z = by-length (eqb (length s) scanLength) es e a l z
+
+    -- "every answer, refusal or ends": from what an accepted opening left, each call handed what the one before it left.
+    pub scan-is-plain : OpenIs flag rule s r s′ → r .number ≡ 0 → runFrom s′ cs ≡ plainScan flag rule cs
+    scan-is-plain o z = by-rule (parse (foldFlag flag) rule) refl (o .answers) (o .leaves) z

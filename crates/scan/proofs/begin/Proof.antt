@@ -1,0 +1,46 @@
+-- `scan::begin` meets its contract. Its laws are in this crate's `proofs/`; `search LAW` finds a law's premises in `c`. Assumes nothing.
+use Rattle.scan.proofs.Opens.{begin-is, begin-long}
+use borrow.Author.Needs.{needs}
+use Rattle.scan.proofs.begin.Statement.{statement}
+use Rattle.scan.proofs.begin.Tie as tie
+use Rattle.scan.proofs.begin.Reads as reads
+use Rattle.scan.proofs.begin.Lts as lts
+use Rattle.scan_values.proofs.put.Reads as put-reads
+use Rattle.words.proofs.opening.Reads as opening-reads
+
+slice-write-scan : tie.Need-slice-write-scan
+slice-write-scan c = search needs
+
+slice-write-scan-2 : tie.Need-slice-write-scan-2
+slice-write-scan-2 c = search needs
+
+cast-scan : tie.Need-cast-scan
+cast-scan c = search needs
+
+slice-write-scan-3 : tie.Need-slice-write-scan-3
+slice-write-scan-3 c = search needs
+
+opening-requires : tie.Need-opening-requires
+opening-requires c κs = search needs
+
+put-requires : tie.Need-put-requires
+put-requires c κs = search needs
+
+same-length : tie.Need-same-length
+same-length c = search begin-long
+
+returns : tie.Need-returns
+returns c = search begin-is
+
+pub begin-spec : {M : Type 1} → statement M
+begin-spec =
+    tie.close
+    (tie.spec
+    slice-write-scan
+    slice-write-scan-2
+    cast-scan
+    slice-write-scan-3
+    opening-requires
+    put-requires
+    same-length
+    returns)

@@ -1,0 +1,47 @@
+-- `scan::feed` meets its contract. Its laws are in this crate's `proofs/`; `search LAW` finds a law's premises in `c`. Assumes nothing.
+use Rattle.scan.proofs.Outcomes.{feed-refused, feed-let-in, feed-done}
+use borrow.Author.Needs.{needs}
+use Rattle.scan.proofs.feed.Statement.{statement}
+use Rattle.scan.proofs.feed.Tie as tie
+use Rattle.scan.proofs.feed.Reads as reads
+use Rattle.scan.proofs.feed.Lts as lts
+use Rattle.scan.proofs.feed_accepted.Reads as feed-accepted-reads
+use Rattle.scan.proofs.refusal.Reads as refusal-reads
+use Rattle.scan_values.proofs.refused.Reads as refused-reads
+
+refused-requires : tie.Need-refused-requires
+refused-requires c κs = search needs
+
+refusal-requires : tie.Need-refusal-requires
+refusal-requires c κs = search needs
+
+same-length : tie.Need-same-length
+same-length c = search needs
+
+returns : tie.Need-returns
+returns c = search feed-refused
+
+feed-accepted-requires : tie.Need-feed-accepted-requires
+feed-accepted-requires c κs = search feed-let-in
+
+same-length-2 : tie.Need-same-length-2
+same-length-2 c = search needs
+
+same-length-3 : tie.Need-same-length-3
+same-length-3 c = search needs
+
+returns-2 : tie.Need-returns-2
+returns-2 c = search feed-done
+
+pub feed-spec : {M : Type 1} → statement M
+feed-spec =
+    tie.close
+    (tie.spec
+    refused-requires
+    refusal-requires
+    same-length
+    returns
+    feed-accepted-requires
+    same-length-2
+    same-length-3
+    returns-2)

@@ -1,0 +1,96 @@
+-- `scan::finish_accepted` meets its contract. Its laws are in this crate's `proofs/`; `search LAW` finds a law's premises in `c`. Assumes nothing.
+use lib.ListN.{length-take}
+use native.Mathlib.Omega.{arith}
+use Rattle.scan.proofs.Outcomes.{finish-stored}
+use borrow.Author.Needs.{needs}
+use Rattle.scan.proofs.finish_accepted.Statement.{statement}
+use Rattle.scan.proofs.finish_accepted.Tie as tie
+use Rattle.scan.proofs.finish_accepted.Reads as reads
+use Rattle.scan.proofs.finish_accepted.Lts as lts
+use Rattle.feeding.proofs.through.Reads as through-reads
+use Rattle.scan_values.proofs.load.Reads as load-reads
+use Rattle.scan_values.proofs.masks_of.Reads as masks-of-reads
+use Rattle.scan_values.proofs.put.Reads as put-reads
+
+masks-of-requires : tie.Need-masks-of-requires
+masks-of-requires c κs = search needs
+
+load-requires : tie.Need-load-requires
+load-requires c κs = search needs
+
+slice-read-raw : tie.Need-slice-read-raw
+slice-read-raw c = search needs
+
+slice-read-put : tie.Need-slice-read-put
+slice-read-put c = search needs
+
+slice-read-t20 : tie.Need-slice-read-t20
+slice-read-t20 c = search needs
+
+cast-t21 : tie.Need-cast-t21
+cast-t21 c = search needs
+
+slice-reshare-prefix-through : tie.Need-slice-reshare-prefix-through
+slice-reshare-prefix-through c = search needs
+
+slice-aggregate-through : tie.Need-slice-aggregate-through
+slice-aggregate-through c = let q = c .before .before .before .before .before .before .before .before .before .before .before .pre .possible in simp length-take (omega (arith, q .long))
+
+array-share-prefix-b : tie.Need-array-share-prefix-b
+array-share-prefix-b c = search needs
+
+slice-aggregate-through-2 : tie.Need-slice-aggregate-through-2
+slice-aggregate-through-2 c = let l = c .before .before .before .before .before .before .load .ensures in simp length-take (omega (arith, l .few, l .long))
+
+through-requires : tie.Need-through-requires
+through-requires c κs =
+    let l = c .before .before .before .before .before .before .before .load .ensures in
+    let m = c .before .before .before .before .before .before .before .before .before .masks-of .ensures in
+    let p = c .before .before .before .before .before .before .before .before .before .before .before .before .before .pre in
+    let q = p .possible in
+    (simp length-take (omega (arith, q .long)), (rw m (q .top), (simp length-take (omega (arith, l .few, l .size, l .long, p .room)), simp length-take (omega (arith, l .few, l .size, l .long, q .sum, q .raw)))))
+
+cast-put : tie.Need-cast-put
+cast-put c = search needs
+
+put-requires : tie.Need-put-requires
+put-requires c κs = search needs
+
+cast-count : tie.Need-cast-count
+cast-count c = search needs
+
+same-length : tie.Need-same-length
+same-length c = search needs
+
+same-length-2 : tie.Need-same-length-2
+same-length-2 c = search needs
+
+returns : tie.Need-returns
+returns c =
+    let t = c .before .before .before .before .before .before .before .before in
+    let l = c .before .before .before .before .before .before .before .before .before .before .before .before .before .before .before .before in
+    let m = c .before .before .before .before .before .before .before .before .before .before .before .before .before .before .before .before .before .before in
+    let s = c .before .before .before .before .before .before .before .before .before .before .before .before .before .before .before .before .before .before .before .before .before .before in
+    finish-stored (s .args .scan .now) (s .args .ends .now) (s .pre) (m .masks-of .result) (m .masks-of .ensures) (l .load .result) (l .load .ensures) (t .through .result) _ (t .through .ensures) _ (c .before .before .before .put .ensures)
+
+pub finish-accepted-spec : {M : Type 1} → statement M
+finish-accepted-spec =
+    tie.close
+    (tie.spec
+    masks-of-requires
+    load-requires
+    slice-read-raw
+    slice-read-put
+    slice-read-t20
+    cast-t21
+    slice-reshare-prefix-through
+    slice-aggregate-through
+    array-share-prefix-b
+    slice-aggregate-through-2
+    through-requires
+    cast-put
+    put-requires
+    cast-count
+    same-length
+    same-length-2
+    returns)

@@ -1,0 +1,157 @@
+// The forward scan: open, feed, finish, over a lent scan value.
+ghost use mathlib.Core.Path.{_≡_};
+ghost use lib.ListN.{length};
+ghost use Rattle.references.specs.Decoder.{refusing};
+ghost use Rattle.scan_values.specs.Value.{scanLength, Fine};
+ghost use Rattle.scan.specs.Calls.{FeedTaken, FinishTaken, FeedIs, FinishIs};
+ghost use Rattle.scan.specs.Opening.{begun, OpenIs};
+use feeding::State;
+use references::Answer;
+use references::Held;
+use rules::Prepared;
+
+// What an opening answers.
+pub struct Opened {
+    pub number: u32,
+    pub place: u32,
+    pub positions: u32,
+    pub shortest: u32,
+}
+
+// Writes all but the table.
+fn begin(scan: &mut [u64], p: Prepared)
+    requires { ⌜ length (now scan) ≡ scanLength ⌝ }
+    ensures { λ r. ⌜ now (scan .exit) ≡ begun (now (scan .entry)) p ⌝ }
+{
+    scan[scan_values::REPEATS] = p.repeats;
+    scan[scan_values::OPTIONAL] = p.optional;
+    scan[scan_values::POSITIONS] = p.positions as u64;
+    let d = words::opening(p.optional);
+    let none = Held {
+        bytes: [0u8; 10],
+        len: 0,
+    };
+    scan_values::put(scan, d, 0, 0, 0, none);
+}
+
+// Opens a scan for a rule.
+pub fn open(rule: &[u8], fold: u32, scan: &mut [u64]) -> Opened
+    ensures { λ r. ⌜ OpenIs fold (now (rule .entry)) (now (scan .entry)) r (now (scan .exit)) ⌝ }
+{
+    let p = rules::prepare(rule, fold);
+    if p.number != 0 {
+        return Opened {
+            number: p.number,
+            place: p.place,
+            positions: 0,
+            shortest: 0,
+        };
+    }
+    if scan.len() != scan_values::LENGTH {
+        return Opened {
+            number: 11,
+            place: 0,
+            positions: 0,
+            shortest: 0,
+        };
+    }
+    rules::tables::fill(rule, fold, p.positions, &mut scan[..256], false);
+    begin(scan, p);
+    Opened {
+        number: 0,
+        place: 0,
+        positions: p.positions,
+        shortest: p.shortest,
+    }
+}
+
+// The work of an accepted feed.
+fn feed_accepted(scan: &mut [u64], piece: &[u8], ends: &mut [u32]) -> Answer
+    requires { ⌜ Fine (now scan) (length (now piece)) (length (now ends)) ⌝ }
+    ensures { λ r. ⌜ FeedTaken (now (scan .entry)) (now (piece .entry)) (now (ends .entry)) r (now (scan .exit)) (now (ends .exit)) ⌝ }
+{
+    let masks = scan_values::masks_of(scan);
+    let h = scan_values::load(scan);
+    let raw = scan[scan_values::RAW];
+    let g = State {
+        d: scan[scan_values::STATE],
+        at: scan[scan_values::DECODED] as u32,
+        count: 0,
+    };
+    let f = feeding::feed_bytes(&scan[..256], masks, g, h, piece, ends);
+    let u = f.state;
+    let k = f.held;
+    let taken = raw + piece.len() as u64;
+    scan_values::put(scan, u.d, 0, taken, u.at as u64, k);
+    let count = u.count as u32;
+    Answer {
+        number: 0,
+        place: 0,
+        count: count,
+        windows: 0,
+    }
+}
+
+// The work of an accepted finish: the held bytes are let through as they came.
+fn finish_accepted(scan: &mut [u64], ends: &mut [u32]) -> Answer
+    requires { ⌜ Fine (now scan) 0 (length (now ends)) ⌝ }
+    ensures { λ r. ⌜ FinishTaken (now (scan .entry)) (now (ends .entry)) r (now (scan .exit)) (now (ends .exit)) ⌝ }
+{
+    let masks = scan_values::masks_of(scan);
+    let h = scan_values::load(scan);
+    let raw = scan[scan_values::RAW];
+    let g = State {
+        d: scan[scan_values::STATE],
+        at: scan[scan_values::DECODED] as u32,
+        count: 0,
+    };
+    let b = h.bytes;
+    let n = h.len;
+    let u = feeding::through(&scan[..256], masks, g, &b[..n], ends);
+    let none = Held {
+        bytes: [0u8; 10],
+        len: 0,
+    };
+    scan_values::put(scan, u.d, 1, raw, u.at as u64, none);
+    let count = u.count as u32;
+    Answer {
+        number: 0,
+        place: 0,
+        count: count,
+        windows: 0,
+    }
+}
+
+// A refusal: zero counts beside its number.
+fn refusal(number: u32) -> Answer
+    ensures { λ r. ⌜ r ≡ refusing number ⌝ }
+{
+    Answer {
+        number: number,
+        place: 0,
+        count: 0,
+        windows: 0,
+    }
+}
+
+// Feeds a piece to the scan.
+pub fn feed(scan: &mut [u64], piece: &[u8], ends: &mut [u32]) -> Answer
+    ensures { λ r. ⌜ FeedIs (now (scan .entry)) (now (piece .entry)) (now (ends .entry)) r (now (scan .exit)) (now (ends .exit)) ⌝ }
+{
+    let number = scan_values::refused(scan, piece.len(), ends.len());
+    if number != 0 {
+        return refusal(number);
+    }
+    feed_accepted(scan, piece, ends)
+}
+
+// Finishes the scan.
+pub fn finish(scan: &mut [u64], ends: &mut [u32]) -> Answer
+    ensures { λ r. ⌜ FinishIs (now (scan .entry)) (now (ends .entry)) r (now (scan .exit)) (now (ends .exit)) ⌝ }
+{
+    let number = scan_values::refused(scan, 0, ends.len());
+    if number != 0 {
+        return refusal(number);
+    }
+    finish_accepted(scan, ends)
+}
