@@ -19,12 +19,8 @@ use Rattle.stepping.specs.declared.Masks.{Masks}
 use Rattle.feeding.specs.declared.State.{State}
 use Rattle.feeding.specs.declared.Fed.{Fed}
 use Rattle.feeding.specs.Feeding.{textOf, tailOf, Stepped, FedIs}
-use Rattle.scan_values.specs.Value.{tableIn, masksIn, stateIn, rawIn, decodedIn, heldIn, LoadFine, LoadIs, Fine, RefusedIs, written}
-use Rattle.scan.specs.Calls.{numberOf, outOf, tailAfter, finishedAfter, endsOf, Taken, CallIs}
-
--- the state that a call begins with
-abbrev start : List ℕ → State
-start s = record { d = stateIn s; at = decodedIn s; count = 0 }
+use Rattle.scan_values.specs.Value.{tableIn, masksIn, rawIn, decodedIn, heldIn, LoadFine, LoadIs, Fine, RefusedIs, written}
+use Rattle.scan.specs.Calls.{startOf, numberOf, outOf, tailAfter, finishedAfter, endsOf, Taken, CallIs}
 
 module _ (s : List ℕ) (p n : ℕ) (fine : Fine s p n) where
   pub can-load : LoadFine s
@@ -38,7 +34,7 @@ module _ (s : List ℕ) (p n : ℕ) (fine : Fine s p n) where
     fits = let q = fine .possible in (omega (arith, fine .room, q .nine, x .size), omega (arith, fine .small, q .sum, x .size))
 
 -- stepping from a scan value's state over what a call lets out, said of the value
-module _ (s ends : List ℕ) (c : Call) (u : State) (ends′ : List ℕ) (x : Stepped (tableIn s) (masksIn s) (start s) (outOf s c) ends u ends′) where
+module _ (s ends : List ℕ) (c : Call) (u : State) (ends′ : List ℕ) (x : Stepped (tableIn s) (masksIn s) (startOf s) (outOf s c) ends u ends′) where
   ends-are : length (outOf s c) ≤ length ends → ends′ ≡ overwrite ends (endsOf s c)
   ends-are h =
       let n = x .count in
@@ -49,45 +45,47 @@ module _ (s ends : List ℕ) (c : Call) (u : State) (ends′ : List ℕ) (x : St
       → Taken s c ends (counting (u .count)) s′ ends′
   taken h s′ e = record { answers = ap counting (x .count ∙ zero-add _); leaves = e ∙ rw (x .state, x .place); lists = ends-are h }
 
+same-start : (s ends : List ℕ) (m : Masks) → m ≡ masksIn s → (g : State) → g ≡ startOf s → (out : List ℕ) (u : State) (ends′ : List ℕ) → Stepped (tableIn s) m g out ends u ends′
+    → Stepped (tableIn s) (masksIn s) (startOf s) out ends u ends′
+same-start s ends m em g eg out u ends′ y = subst (λ (k : Masks). Stepped (tableIn s) k (startOf s) out ends u ends′) em (subst (λ (h : State). Stepped (tableIn s) m h out ends u ends′) eg y)
+
 -- `feed_accepted`
-module _ (s piece ends : List ℕ) (fine : Fine s (length piece) (length ends)) (m : Masks) (em : m ≡ masksIn s) (l : Held) (x : LoadIs s l) where
-  pub feed-stored : (f : Fed) (ends′ : List ℕ) → FedIs (tableIn s) m (start s) l piece ends f ends′ → (s′ : List ℕ)
+module _ (s piece ends : List ℕ) (fine : Fine s (length piece) (length ends)) (m : Masks) (em : m ≡ masksIn s) (g : State) (eg : g ≡ startOf s) (l : Held) (x : LoadIs s l) where
+  pub feed-stored : (f : Fed) (ends′ : List ℕ) → FedIs (tableIn s) m g l piece ends f ends′ → (s′ : List ℕ)
       → s′ ≡ written s (f .state .d) 0 (rawIn s + length piece) (f .state .at) (heldOf (f .held))
       → Taken s (feed piece (length ends)) ends (counting (f .state .count)) s′ ends′
   feed-stored f ends′ y s′ e =
       let r = fine .room in
       let o : textOf (heldOf l ++ piece) ≡ textOf (heldIn s ++ piece) = ap (λ (h : List ℕ). textOf (h ++ piece)) (x .is) in
-      let w : Stepped (tableIn s) (masksIn s) (start s) (textOf (heldIn s ++ piece)) ends (f .state) ends′ =
-      subst (λ (k : Masks). Stepped (tableIn s) k (start s) (textOf (heldIn s ++ piece)) ends (f .state) ends′) em
-      (subst (λ (t : List ℕ). Stepped (tableIn s) m (start s) t ends (f .state) ends′) o (y .steps)) in
+      let w : Stepped (tableIn s) (masksIn s) (startOf s) (textOf (heldIn s ++ piece)) ends (f .state) ends′ =
+      same-start s ends m em g eg (textOf (heldIn s ++ piece)) (f .state) ends′ (subst (λ (t : List ℕ). Stepped (tableIn s) m g t ends (f .state) ends′) o (y .steps)) in
       let h : heldOf (f .held) ≡ tailOf (heldIn s ++ piece) = y .held .is ∙ ap (λ (h : List ℕ). tailOf (h ++ piece)) (x .is) in
       taken s ends (feed piece (length ends)) (f .state) ends′ w (omega (arith, y .few, ap length o, x .few)) s′
       (e ∙ ap (written s (f .state .d) 0 (rawIn s + length piece) (f .state .at)) h)
 
   -- its count of ends fits
-  pub feed-count : (f : Fed) (ends′ : List ℕ) → FedIs (tableIn s) m (start s) l piece ends f ends′ → f .state .count < 2 ^ 32
+  pub feed-count : (f : Fed) (ends′ : List ℕ) → FedIs (tableIn s) m g l piece ends f ends′ → f .state .count < 2 ^ 32
   feed-count f ends′ y =
       let q = fine .possible in
       let a = y .steps .few in
-      omega (arith, y .few, x .size, q .sum, fine .small)
+      omega (arith, y .few, x .size, q .sum, fine .small, ap (λ (h : State). h .count) eg)
 
 -- `finish_accepted`
-module _ (s ends : List ℕ) (fine : Fine s 0 (length ends)) (m : Masks) (em : m ≡ masksIn s) (l : Held) (x : LoadIs s l) where
+module _ (s ends : List ℕ) (fine : Fine s 0 (length ends)) (m : Masks) (em : m ≡ masksIn s) (g : State) (eg : g ≡ startOf s) (l : Held) (x : LoadIs s l) where
   pub l-long : length (heldOf l) ≡ l .len
   l-long = length-take-le (l .len) (l .bytes) (omega (arith, x .few, x .long))
 
-  pub finish-stored : (u : State) (ends′ : List ℕ) → Stepped (tableIn s) m (start s) (heldOf l) ends u ends′ → (s′ : List ℕ)
+  pub finish-stored : (u : State) (ends′ : List ℕ) → Stepped (tableIn s) m g (heldOf l) ends u ends′ → (s′ : List ℕ)
       → s′ ≡ written s (u .d) 1 (rawIn s) (u .at) [] → Taken s (finish (length ends)) ends (counting (u .count)) s′ ends′
   finish-stored u ends′ y s′ e =
       let r = fine .room in
-      let w : Stepped (tableIn s) (masksIn s) (start s) (heldIn s) ends u ends′ =
-      subst (λ (k : Masks). Stepped (tableIn s) k (start s) (heldIn s) ends u ends′) em
-      (subst (λ (t : List ℕ). Stepped (tableIn s) m (start s) t ends u ends′) (x .is) y) in
+      let w : Stepped (tableIn s) (masksIn s) (startOf s) (heldIn s) ends u ends′ =
+      same-start s ends m em g eg (heldIn s) u ends′ (subst (λ (t : List ℕ). Stepped (tableIn s) m g t ends u ends′) (x .is) y) in
       taken s ends (finish (length ends)) u ends′ w (omega (arith, ap length (x .is), l-long, x .few)) s′
       (e ∙ ap (λ (r : ℕ). written s (u .d) 1 r (u .at) []) (sym (add-zero (rawIn s))))
 
-  pub finish-count : (u : State) (ends′ : List ℕ) → Stepped (tableIn s) m (start s) (heldOf l) ends u ends′ → u .count < 2 ^ 32
-  finish-count u ends′ y = let a = y .few in omega (arith, l-long, x .few)
+  pub finish-count : (u : State) (ends′ : List ℕ) → Stepped (tableIn s) m g (heldOf l) ends u ends′ → u .count < 2 ^ 32
+  finish-count u ends′ y = let a = y .few in omega (arith, l-long, x .few, ap (λ (h : State). h .count) eg)
 
 -- `feed` and `finish`
 module _ (s ends : List ℕ) (c : Call) (k : ℕ) (f : RefusedIs s (length (pieceOf c)) (listOf c) k) where

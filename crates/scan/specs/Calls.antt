@@ -14,6 +14,7 @@ use Rattle.model.specs.PlainScan.{Call, feed, finish, pieceOf, listOf}
 use Rattle.references.specs.declared.Answer.{Answer}
 use Rattle.references.specs.Decoder.{refusing, counting}
 use Rattle.stepping.specs.Stepping.{stateAfter, endsIn}
+use Rattle.feeding.specs.declared.State.{State}
 use Rattle.feeding.specs.Feeding.{textOf, tailOf}
 use Rattle.scan_values.specs.Value.{tableIn, masksIn, stateIn, rawIn, decodedIn, heldIn, written, numberFor}
 
@@ -22,6 +23,10 @@ use Rattle.scan_values.specs.Value.{tableIn, masksIn, stateIn, rawIn, decodedIn
 -- the refusal's number, or 0
 abbrev pub numberOf : (s : List ℕ) → Call → ℕ
 numberOf s c = numberFor s (length (pieceOf c)) (listOf c)
+
+-- where it stands before its first byte
+abbrev pub startOf : (s : List ℕ) → State
+startOf s = record { d = stateIn s; at = decodedIn s; count = 0 }
 
 -- What it lets out: a feed the text of the held bytes and the piece, "the finish" the held bytes, as they came.
 abbrev pub outOf : (s : List ℕ) → Call → List ℕ

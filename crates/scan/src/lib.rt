@@ -2,8 +2,8 @@
 ghost use mathlib.Core.Path.{_≡_};
 ghost use lib.ListN.{length};
 ghost use Rattle.references.specs.Decoder.{refusing};
-ghost use Rattle.scan_values.specs.Value.{scanLength, Fine};
-ghost use Rattle.scan.specs.Calls.{FeedTaken, FinishTaken, FeedIs, FinishIs};
+ghost use Rattle.scan_values.specs.Value.{scanLength, Possible, Fine};
+ghost use Rattle.scan.specs.Calls.{startOf, FeedTaken, FinishTaken, FeedIs, FinishIs};
 ghost use Rattle.scan.specs.Opening.{begun, OpenIs};
 use feeding::State;
 use references::Answer;
@@ -65,6 +65,20 @@ pub fn open(rule: &[u8], fold: u32, scan: &mut [u64]) -> Opened
     }
 }
 
+// Where a call stands before its first byte.
+fn start(scan: &[u64]) -> State
+    requires { ⌜ Possible (now scan) ⌝ }
+    ensures { λ r. ⌜ r ≡ startOf (now (scan .entry)) ⌝ }
+{
+    let d = scan[scan_values::STATE];
+    let at = scan[scan_values::DECODED] as u32;
+    State {
+        d: d,
+        at: at,
+        count: 0,
+    }
+}
+
 // The work of an accepted feed.
 fn feed_accepted(scan: &mut [u64], piece: &[u8], ends: &mut [u32]) -> Answer
     requires { ⌜ Fine (now scan) (length (now piece)) (length (now ends)) ⌝ }
@@ -73,11 +87,7 @@ fn feed_accepted(scan: &mut [u64], piece: &[u8], ends: &mut [u32]) -> Answer
     let masks = scan_values::masks_of(scan);
     let h = scan_values::load(scan);
     let raw = scan[scan_values::RAW];
-    let g = State {
-        d: scan[scan_values::STATE],
-        at: scan[scan_values::DECODED] as u32,
-        count: 0,
-    };
+    let g = start(scan);
     let f = feeding::feed_bytes(&scan[..256], masks, g, h, piece, ends);
     let u = f.state;
     let k = f.held;
@@ -100,11 +110,7 @@ fn finish_accepted(scan: &mut [u64], ends: &mut [u32]) -> Answer
     let masks = scan_values::masks_of(scan);
     let h = scan_values::load(scan);
     let raw = scan[scan_values::RAW];
-    let g = State {
-        d: scan[scan_values::STATE],
-        at: scan[scan_values::DECODED] as u32,
-        count: 0,
-    };
+    let g = start(scan);
     let b = h.bytes;
     let n = h.len;
     let u = feeding::through(&scan[..256], masks, g, &b[..n], ends);

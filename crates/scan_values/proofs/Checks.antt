@@ -5,10 +5,10 @@ use mathlib.Core.List.{List, [], _∷_}
 use Prim.Native.Nat.{ℕ, suc, _+_, _-_, _≤_, _<_}
 use native.Mathlib.Decide.{decLt}
 use native.Mathlib.Omega.{arith}
-use lib.Dec.{leb}
+use lib.Dec.{ltb, leb}
 use lib.ListN.{length, take, getD}
 use lib.Seq.{length-take-le}
-use borrow.Author.Tests.{eq-eqb, ne-eqb, lt-ltb, le-ltb, le-leb, lt-leb}
+use borrow.Author.Tests.{ltb-false, eq-eqb, ne-eqb, lt-ltb, le-ltb, le-leb, lt-leb}
 use Rattle.model.specs.RuleText.{positionLimit}
 use Rattle.model.specs.NumberedAnswers.{textLimit}
 use Rattle.model.specs.References.{formLimit, heldMost, canGrow, heldTail}
@@ -182,19 +182,19 @@ module _ (s : List ℕ) (p n : ℕ) (r : Bool) (x : PossibleIs s r) where
     refused-12 a = nonzero 12 (λ q. omega arith) (rw (← x .is, z) (simp (lt-ltb _ _ a)))
 
     module _ (a : finishedIn s ≤ 0) where
-      pub refused-10 : textLimit < rawIn s + p → RefusedIs s p n 10
+      pub refused-10 : ltb textLimit (rawIn s + p) ≡ true → RefusedIs s p n 10
       unfolding numberFor
-      refused-10 b = nonzero 10 (λ q. omega arith) (rw (← x .is, z) (simp (le-ltb _ _ a, lt-ltb _ _ b)))
+      refused-10 b = nonzero 10 (λ q. omega arith) (rw (← x .is, z) (simp (le-ltb _ _ a, b)))
 
-      module _ (b : rawIn s + p ≤ textLimit) where
-        pub refused-9 : n < p + heldMost formLimit → RefusedIs s p n 9
+      module _ (b : ltb textLimit (rawIn s + p) ≡ false) where
+        pub refused-9 : ltb n (p + heldMost formLimit) ≡ true → RefusedIs s p n 9
         unfolding numberFor
-        refused-9 c = nonzero 9 (λ q. omega arith) (rw (← x .is, z) (simp (le-ltb _ _ a, le-ltb _ _ b, lt-ltb _ _ c)))
+        refused-9 c = nonzero 9 (λ q. omega arith) (rw (← x .is, z) (simp (le-ltb _ _ a, b, c)))
 
-        pub refused-0 : p + heldMost formLimit ≤ n → RefusedIs s p n 0
+        pub refused-0 : ltb n (p + heldMost formLimit) ≡ false → RefusedIs s p n 0
         unfolding numberFor
         refused-0 c =
             record {
-              is = rw (← x .is, z) (simp (le-ltb _ _ a, le-ltb _ _ b, le-ltb _ _ c));
-              fine = λ q. record { possible = x .says z; going = omega arith; small = b; room = c };
+              is = rw (← x .is, z) (simp (le-ltb _ _ a, b, c));
+              fine = λ q. record { possible = x .says z; going = omega arith; small = ltb-false _ _ b; room = ltb-false _ _ c };
             }

@@ -139,10 +139,12 @@ pub fn refused(scan: &[u64], piece: usize, list: usize) -> u32
         if scan[FINISHED] > 0 {
             return 12;
         }
-        if scan[RAW] + piece as u64 > TEXT_LIMIT {
+        let over = scan[RAW] + piece as u64 > TEXT_LIMIT;
+        let short = list < piece + HELD_MOST;
+        if over {
             return 10;
         }
-        if list < piece + HELD_MOST {
+        if short {
             return 9;
         }
         return 0;

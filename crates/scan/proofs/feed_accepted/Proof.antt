@@ -1,13 +1,16 @@
 -- `scan::feed_accepted` meets its contract. Its laws are in this crate's `proofs/`; `search LAW` finds a law's premises in `c`. Assumes nothing.
+use mathlib.Core.Path.{ap}
+use Rattle.feeding.specs.declared.State.{State}
 use lib.ListN.{length, length-take}
 use native.Mathlib.Omega.{arith}
-use Rattle.scan.proofs.Outcomes.{held-fine, fits, feed-stored}
+use Rattle.scan.proofs.Outcomes.{held-fine, fits, feed-stored, feed-count}
 use borrow.Author.Needs.{needs}
 use Rattle.scan.proofs.feed_accepted.Statement.{statement}
 use Rattle.scan.proofs.feed_accepted.Tie as tie
 use Rattle.scan.proofs.feed_accepted.Reads as reads
 use Rattle.scan.proofs.feed_accepted.Lts as lts
 use Rattle.feeding.proofs.feed_bytes.Reads as feed-bytes-reads
+use Rattle.scan.proofs.start.Reads as start-reads
 use Rattle.scan_values.proofs.load.Reads as load-reads
 use Rattle.scan_values.proofs.masks_of.Reads as masks-of-reads
 use Rattle.scan_values.proofs.put.Reads as put-reads
@@ -21,14 +24,8 @@ load-requires c κs = search needs
 slice-read-raw : tie.Need-slice-read-raw
 slice-read-raw c = search needs
 
-slice-read-taken : tie.Need-slice-read-taken
-slice-read-taken c = search needs
-
-slice-read-t21 : tie.Need-slice-read-t21
-slice-read-t21 c = search needs
-
-cast-t22 : tie.Need-cast-t22
-cast-t22 c = search needs
+start-requires : tie.Need-start-requires
+start-requires c κs = search needs
 
 slice-reshare-prefix-feed-bytes : tie.Need-slice-reshare-prefix-feed-bytes
 slice-reshare-prefix-feed-bytes c = search needs
@@ -44,10 +41,11 @@ feed-bytes-requires c κs =
     let q = s .pre .possible in
     let h = held-fine (s .args .scan .now) (length (s .args .piece .now)) (length (s .args .ends .now)) (s .pre) (l .load .result) (l .load .ensures) in
     let f = fits (s .args .scan .now) (length (s .args .piece .now)) (length (s .args .ends .now)) (s .pre) (l .load .result) (l .load .ensures) in
-    (simp length-take (omega (arith, q .long)), (rw (m .masks-of .ensures) (q .top), (h, (omega (arith, f .0), omega (arith, f .1)))))
+    let eg = c .before .before .start .ensures in
+    (simp length-take (omega (arith, q .long)), (rw (m .masks-of .ensures) (q .top), (h, (omega (arith, f .0, ap (λ (h : State). h .count) eg), omega (arith, f .1, ap (λ (h : State). h .at) eg, ap (λ (h : State). h .count) eg)))))
 
 add-taken : tie.Need-add-taken
-add-taken c = search needs
+add-taken c = let p = c .before .before .before .before .before .before .before .before .before .before .before .before .before .before .before .before .before .pre in omega (arith, p .small)
 
 cast-put : tie.Need-cast-put
 cast-put c = search needs
@@ -59,7 +57,14 @@ put-requires c κs =
     (s .pre .possible .long, record { long = f .long; few = f .few })
 
 cast-count : tie.Need-cast-count
-cast-count c = search needs
+cast-count c =
+    let f = c .before .before .before .before .before .before .before .before .before .before in
+    let g = c .before .before .before .before .before .before .before .before .before .before .before .before .before in
+    let l = c .before .before .before .before .before .before .before .before .before .before .before .before .before .before .before .before in
+    let m = c .before .before .before .before .before .before .before .before .before .before .before .before .before .before .before .before .before .before in
+    let s = c .before .before .before .before .before .before .before .before .before .before .before .before .before .before .before .before .before .before .before .before .before .before .before in
+    let q = feed-count (s .args .scan .now) (s .args .piece .now) (s .args .ends .now) (s .pre) (m .masks-of .result) (m .masks-of .ensures) (g .start .result) (g .start .ensures) (l .load .result) (l .load .ensures) (f .feed-bytes .result) _ (f .feed-bytes .ensures) in
+    omega arith
 
 same-length : tie.Need-same-length
 same-length c = search needs
@@ -73,7 +78,7 @@ returns c =
     let l = c .before .before .before .before .before .before .before .before .before .before .before .before .before .before .before .before in
     let m = c .before .before .before .before .before .before .before .before .before .before .before .before .before .before .before .before .before .before in
     let s = c .before .before .before .before .before .before .before .before .before .before .before .before .before .before .before .before .before .before .before .before .before .before .before in
-    feed-stored (s .args .scan .now) (s .args .piece .now) (s .args .ends .now) (s .pre) (m .masks-of .result) (m .masks-of .ensures) (l .load .result) (l .load .ensures) (f .feed-bytes .result) _ (f .feed-bytes .ensures) _ (c .before .before .before .put .ensures)
+    feed-stored (s .args .scan .now) (s .args .piece .now) (s .args .ends .now) (s .pre) (m .masks-of .result) (m .masks-of .ensures) (c .before .before .before .before .before .before .before .before .before .before .before .before .before .start .result) (c .before .before .before .before .before .before .before .before .before .before .before .before .before .start .ensures) (l .load .result) (l .load .ensures) (f .feed-bytes .result) _ (f .feed-bytes .ensures) _ (c .before .before .before .put .ensures)
 
 pub feed-accepted-spec : {M : Type 1} → statement M
 feed-accepted-spec =
@@ -82,9 +87,7 @@ feed-accepted-spec =
     masks-of-requires
     load-requires
     slice-read-raw
-    slice-read-taken
-    slice-read-t21
-    cast-t22
+    start-requires
     slice-reshare-prefix-feed-bytes
     slice-aggregate-feed-bytes
     feed-bytes-requires

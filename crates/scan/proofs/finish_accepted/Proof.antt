@@ -1,13 +1,16 @@
 -- `scan::finish_accepted` meets its contract. Its laws are in this crate's `proofs/`; `search LAW` finds a law's premises in `c`. Assumes nothing.
+use mathlib.Core.Path.{ap}
+use Rattle.feeding.specs.declared.State.{State}
 use lib.ListN.{length-take}
 use native.Mathlib.Omega.{arith}
-use Rattle.scan.proofs.Outcomes.{finish-stored}
+use Rattle.scan.proofs.Outcomes.{finish-stored, finish-count}
 use borrow.Author.Needs.{needs}
 use Rattle.scan.proofs.finish_accepted.Statement.{statement}
 use Rattle.scan.proofs.finish_accepted.Tie as tie
 use Rattle.scan.proofs.finish_accepted.Reads as reads
 use Rattle.scan.proofs.finish_accepted.Lts as lts
 use Rattle.feeding.proofs.through.Reads as through-reads
+use Rattle.scan.proofs.start.Reads as start-reads
 use Rattle.scan_values.proofs.load.Reads as load-reads
 use Rattle.scan_values.proofs.masks_of.Reads as masks-of-reads
 use Rattle.scan_values.proofs.put.Reads as put-reads
@@ -21,14 +24,8 @@ load-requires c κs = search needs
 slice-read-raw : tie.Need-slice-read-raw
 slice-read-raw c = search needs
 
-slice-read-put : tie.Need-slice-read-put
-slice-read-put c = search needs
-
-slice-read-t20 : tie.Need-slice-read-t20
-slice-read-t20 c = search needs
-
-cast-t21 : tie.Need-cast-t21
-cast-t21 c = search needs
+start-requires : tie.Need-start-requires
+start-requires c κs = search needs
 
 slice-reshare-prefix-through : tie.Need-slice-reshare-prefix-through
 slice-reshare-prefix-through c = search needs
@@ -48,7 +45,8 @@ through-requires c κs =
     let m = c .before .before .before .before .before .before .before .before .before .masks-of .ensures in
     let p = c .before .before .before .before .before .before .before .before .before .before .before .before .before .pre in
     let q = p .possible in
-    (simp length-take (omega (arith, q .long)), (rw m (q .top), (simp length-take (omega (arith, l .few, l .size, l .long, p .room)), simp length-take (omega (arith, l .few, l .size, l .long, q .sum, q .raw)))))
+    let eg = c .before .before .before .before .start .ensures in
+    (simp length-take (omega (arith, q .long)), (rw m (q .top), (simp length-take (omega (arith, l .few, l .size, l .long, p .room, ap (λ (h : State). h .count) eg)), simp length-take (omega (arith, l .few, l .size, l .long, q .sum, q .raw, ap (λ (h : State). h .at) eg)))))
 
 cast-put : tie.Need-cast-put
 cast-put c = search needs
@@ -57,7 +55,14 @@ put-requires : tie.Need-put-requires
 put-requires c κs = search needs
 
 cast-count : tie.Need-cast-count
-cast-count c = search needs
+cast-count c =
+    let u = c .before .before .before .before .before .before .before .before in
+    let g = c .before .before .before .before .before .before .before .before .before .before .before .before .before in
+    let l = c .before .before .before .before .before .before .before .before .before .before .before .before .before .before .before .before in
+    let m = c .before .before .before .before .before .before .before .before .before .before .before .before .before .before .before .before .before .before in
+    let s = c .before .before .before .before .before .before .before .before .before .before .before .before .before .before .before .before .before .before .before .before .before .before in
+    let q = finish-count (s .args .scan .now) (s .args .ends .now) (s .pre) (m .masks-of .result) (m .masks-of .ensures) (g .start .result) (g .start .ensures) (l .load .result) (l .load .ensures) (u .through .result) _ (u .through .ensures) in
+    omega arith
 
 same-length : tie.Need-same-length
 same-length c = search needs
@@ -71,7 +76,7 @@ returns c =
     let l = c .before .before .before .before .before .before .before .before .before .before .before .before .before .before .before .before in
     let m = c .before .before .before .before .before .before .before .before .before .before .before .before .before .before .before .before .before .before in
     let s = c .before .before .before .before .before .before .before .before .before .before .before .before .before .before .before .before .before .before .before .before .before .before in
-    finish-stored (s .args .scan .now) (s .args .ends .now) (s .pre) (m .masks-of .result) (m .masks-of .ensures) (l .load .result) (l .load .ensures) (t .through .result) _ (t .through .ensures) _ (c .before .before .before .put .ensures)
+    finish-stored (s .args .scan .now) (s .args .ends .now) (s .pre) (m .masks-of .result) (m .masks-of .ensures) (c .before .before .before .before .before .before .before .before .before .before .before .before .before .start .result) (c .before .before .before .before .before .before .before .before .before .before .before .before .before .start .ensures) (l .load .result) (l .load .ensures) (t .through .result) _ (t .through .ensures) _ (c .before .before .before .put .ensures)
 
 pub finish-accepted-spec : {M : Type 1} → statement M
 finish-accepted-spec =
@@ -80,9 +85,7 @@ finish-accepted-spec =
     masks-of-requires
     load-requires
     slice-read-raw
-    slice-read-put
-    slice-read-t20
-    cast-t21
+    start-requires
     slice-reshare-prefix-through
     slice-aggregate-through
     array-share-prefix-b

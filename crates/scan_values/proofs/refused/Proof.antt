@@ -17,17 +17,17 @@ shared-slice-read-if2 c = let p = c .before .before .possible .ensures .says (c 
 returns : tie.Need-returns
 returns c = search refused-12
 
-shared-slice-read-if3 : tie.Need-shared-slice-read-if3
-shared-slice-read-if3 c = let p = c .before .before .before .before .possible .ensures .says (c .before .before .before .if1 .taken) in omega (arith, p .long)
+shared-slice-read-over : tie.Need-shared-slice-read-over
+shared-slice-read-over c = let p = c .before .before .before .before .possible .ensures .says (c .before .before .before .if1 .taken) in omega (arith, p .long)
 
-add-if3 : tie.Need-add-if3
-add-if3 c = let p = c .before .before .before .before .possible .ensures .says (c .before .before .before .if1 .taken) in omega (arith, p .raw)
+add-over : tie.Need-add-over
+add-over c = let p = c .before .before .before .before .possible .ensures .says (c .before .before .before .if1 .taken) in omega (arith, p .raw)
+
+add-short : tie.Need-add-short
+add-short c = search needs
 
 returns-2 : tie.Need-returns-2
 returns-2 c = search refused-10
-
-add-if4 : tie.Need-add-if4
-add-if4 c = search needs
 
 returns-3 : tie.Need-returns-3
 returns-3 c = search refused-9
@@ -45,10 +45,10 @@ refused-spec =
     possible-requires
     shared-slice-read-if2
     returns
-    shared-slice-read-if3
-    add-if3
+    shared-slice-read-over
+    add-over
+    add-short
     returns-2
-    add-if4
     returns-3
     returns-4
     returns-5)
