@@ -1,5 +1,6 @@
 -- Laws of numbers and rows of bits, and the bridge from words to the model.
 pub mod Digits
+pub mod Apart
 pub mod Closure
 pub mod Counting
 pub mod MaskLaws
