@@ -1,8 +1,8 @@
 -- That a pair of positions fits: what the tests on the table and the masks say. Assumes nothing.
-use mathlib.Core.Path.{_≡_, refl, sym, ap, _∙_}
+use mathlib.Core.Path.{_≡_, refl, sym, _∙_}
 use mathlib.Core.Bool.{Bool, true, false, not, _&&_, _||_}
 use mathlib.Core.List.{List}
-use Prim.Native.Nat.{ℕ, zero, suc, _+_, _-_, _*_, _/_, _%_, _^_, _≤_, _<_}
+use Prim.Native.Nat.{ℕ, _+_, _-_, _*_, _%_, _^_, _≤_, _<_}
 use native.Mathlib.Nat.{one-mul}
 use native.Mathlib.Omega.{arith}
 use native.Mathlib.Decide.{decLt}
@@ -10,12 +10,11 @@ use lib.Bits.{bitAnd, bitOr}
 use lib.Dec.{eqb, leb, lit<}
 use lib.ListN.{length, getD, List·getD-eq-default}
 use lib.Pow.{pow-pos, shl-exact}
-use borrow.Author.Tests.{not-true, not-false, eqb-true, eqb-false, leb-true}
+use borrow.Author.Tests.{not-true, not-false, eqb-false, leb-true}
 use Rattle.model.proofs.Truth.{or-false-left, or-false-right, and-false, T-to}
 use Rattle.words.specs.Bit.{bit}
 use Rattle.words.proofs.Digits.{and-bit, or-bit, none-bit}
 use Rattle.words.proofs.Apart.{clear-at, at-clear}
-use Rattle.plans.specs.declared.Plan.{Plan}
 use Rattle.plans.specs.Plans.{Home, Shared, Alone, Plain, Fit, Paired, Planned}
 
 -- ---- the bits that two entries have in common

@@ -12,7 +12,6 @@ use borrow.Author.Tests.{not-false, eqb-true, le-leb, ne-eqb}
 use Rattle.model.proofs.Truth.{T-to}
 use Rattle.words.specs.ForwardStep.{opening, topBit}
 use Rattle.looks.specs.Looks.{Missed, meets}
-use Rattle.plans.specs.declared.Plan.{Plan}
 use Rattle.plans.specs.Plans.{Home, Inside, Planned}
 
 -- no byte below lo, and none from hi + 1 on

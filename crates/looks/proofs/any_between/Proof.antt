@@ -1,8 +1,8 @@
 -- `looks::any_between` meets its contract. Its laws are in this crate's `proofs/`; `search LAW` finds a law's premises in `c`. Assumes nothing.
 use borrow.Author.Needs.{needs}
-use Prim.Native.Nat.{_-_, _≤_}
+use Prim.Native.Nat.{_-_}
 use Rattle.looks.proofs.LookLaws.{Looking, look-begun, between-on, look-over}
-use Rattle.looks.specs.Looks.{leaves, between, same}
+use Rattle.looks.specs.Looks.{between}
 use Rattle.looks.proofs.any_between.Statement.{statement}
 use Rattle.looks.proofs.any_between.Tie as tie
 

@@ -1,6 +1,6 @@
 -- `looks::any_pair` meets its contract. Its laws are in this crate's `proofs/`; `search LAW` finds a law's premises in `c`. Assumes nothing.
 use borrow.Author.Needs.{needs}
-use Prim.Native.Nat.{_-_, _≤_}
+use Prim.Native.Nat.{_-_}
 use Rattle.looks.proofs.LookLaws.{Looking, look-begun, pair-on, look-over}
 use Rattle.looks.specs.Looks.{pairAt}
 use Rattle.looks.proofs.any_pair.Statement.{statement}

@@ -1,6 +1,6 @@
 -- `looks::crawl_leaving` meets its contract. Its laws are in this crate's `proofs/`; `search LAW` finds a law's premises in `c`. Assumes nothing.
 use borrow.Author.Needs.{needs}
-use Prim.Native.Nat.{_-_, _≤_}
+use Prim.Native.Nat.{_-_}
 use lib.ListN.{length}
 use Rattle.looks.proofs.LookLaws.{miss-begun, leaves-one}
 use Rattle.looks.specs.Looks.{Missed, leaves}

@@ -1,9 +1,9 @@
 -- `looks::skim_between` meets its contract. Its laws are in this crate's `proofs/`; `search LAW` finds a law's premises in `c`. Assumes nothing.
 use borrow.Author.Needs.{needs}
-use Prim.Native.Nat.{_-_, _≤_}
+use Prim.Native.Nat.{_-_}
 use lib.ListN.{length}
 use Rattle.looks.proofs.LookLaws.{miss-begun, miss-more}
-use Rattle.looks.specs.Looks.{Missed, leaves, between, same}
+use Rattle.looks.specs.Looks.{Missed, between}
 use Rattle.looks.proofs.skim_between.Statement.{statement}
 use Rattle.looks.proofs.skim_between.Tie as tie
 

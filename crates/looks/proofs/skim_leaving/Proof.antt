@@ -1,9 +1,9 @@
 -- `looks::skim_leaving` meets its contract. Its laws are in this crate's `proofs/`; `search LAW` finds a law's premises in `c`. Assumes nothing.
 use borrow.Author.Needs.{needs}
-use Prim.Native.Nat.{_-_, _≤_}
+use Prim.Native.Nat.{_-_}
 use lib.ListN.{length}
 use Rattle.looks.proofs.LookLaws.{miss-begun, miss-more}
-use Rattle.looks.specs.Looks.{Missed, leaves, between, same}
+use Rattle.looks.specs.Looks.{Missed, leaves}
 use Rattle.looks.proofs.skim_leaving.Statement.{statement}
 use Rattle.looks.proofs.skim_leaving.Tie as tie
 

@@ -1,7 +1,6 @@
 -- `looks::skim_pair` meets its contract. Its laws are in this crate's `proofs/`; `search LAW` finds a law's premises in `c`. Assumes nothing.
 use borrow.Author.Needs.{needs}
-use Prim.Native.Nat.{_-_, _≤_}
-use lib.ListN.{length}
+use Prim.Native.Nat.{_-_}
 use Rattle.looks.proofs.LookLaws.{miss-begun, miss-more}
 use Rattle.looks.specs.Looks.{Missed, pairAt}
 use Rattle.looks.proofs.skim_pair.Statement.{statement}

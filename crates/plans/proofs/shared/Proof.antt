@@ -1,6 +1,6 @@
 -- `plans::shared` meets its contract. Its laws are in this crate's `proofs/`; `search LAW` finds a law's premises in `c`. Assumes nothing.
 use borrow.Author.Needs.{needs}
-use Prim.Native.Nat.{_-_, _≤_}
+use Prim.Native.Nat.{_-_}
 use Rattle.plans.proofs.Fitting.{Sharing, share-begun, share-on, share-over}
 use Rattle.plans.proofs.shared.Statement.{statement}
 use Rattle.plans.proofs.shared.Tie as tie
