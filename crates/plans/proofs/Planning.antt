@@ -1,14 +1,14 @@
 -- What each kind of plan promises, from what was read off the table. Assumes nothing.
-use mathlib.Core.Path.{_≡_, refl}
+use mathlib.Core.Path.{_≡_, refl, sym, _∙_}
 use mathlib.Core.Bool.{Bool, true, false, _&&_}
 use mathlib.Core.List.{List}
-use Prim.Native.Nat.{ℕ, _+_, _-_, _*_, _/_, _%_, _^_, _<_}
+use Prim.Native.Nat.{ℕ, _+_, _-_, _*_, _%_, _^_, _<_}
 use native.Mathlib.Omega.{arith}
 use native.Mathlib.Decide.{decLt}
 use lib.Bits.{bitAnd, bitOr, and-zero-l}
 use lib.Dec.{eqb, leb}
 use lib.ListN.{length, getD, List·getD-eq-default}
-use borrow.Author.Tests.{not-false, eqb-true, le-leb, ne-eqb}
+use borrow.Author.Tests.{not-false, eqb-true, le-leb}
 use Rattle.model.proofs.Truth.{T-to}
 use Rattle.words.specs.ForwardStep.{opening, topBit}
 use Rattle.looks.specs.Looks.{Missed, meets}
@@ -32,10 +32,9 @@ inside t next lo hi past n g g′ e = record { none = λ c z. go c z (decLt c lo
         let z′ : _≡_ {A = Bool} true false = rw (le-leb lo c (omega arith), le-leb c hi (omega arith)) at z in
         absurd (T-to z′ tt)
 
-pub home-is : (repeats optional top home next : ℕ) → home ≡ opening 64 optional → next ≡ bitOr (home * 2 % 2 ^ 64) (bitAnd home repeats)
-    → (home / 2 ^ top % 2 ≡ 1 → ⊥) → Home repeats optional top home next
-unfolding topBit
-home-is repeats optional top home next eh en z = record { opens = eh; goes = en; silent = ne-eqb _ _ z }
+pub home-is : (repeats optional top home next : ℕ) (r : Bool) → home ≡ opening 64 optional → next ≡ bitOr (home * 2 % 2 ^ 64) (bitAnd home repeats)
+    → r ≡ topBit top home → r ≡ false → Home repeats optional top home next
+home-is repeats optional top home next r eh en er z = record { opens = eh; goes = en; silent = sym er ∙ z }
 
 -- nothing is passed over
 pub plan-none : (t : List ℕ) (repeats optional top : ℕ) (home next lo hi a b : ℕ) → Planned t repeats optional top (record { kind = 0; home = home; next = next; lo = lo; hi = hi; a = a; b = b })

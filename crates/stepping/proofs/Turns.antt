@@ -3,13 +3,12 @@
 use mathlib.Core.Path.{_≡_, refl, sym, ap, _∙_}
 use mathlib.Core.List.{List, [], _∷_, _++_}
 use mathlib.Core.Bool.{Bool, true, false}
-use Prim.Native.Nat.{ℕ, suc, _+_, _-_, _/_, _%_, _^_, _≤_, _<_}
+use Prim.Native.Nat.{ℕ, suc, _+_, _-_, _%_, _^_, _≤_, _<_}
 use native.Mathlib.Numerals.{add-one}
 use native.Mathlib.Nat.{zero-add, add-zero}
 use native.Mathlib.Omega.{arith}
 use lib.ListN.{length, drop, getD, set, length-set, drop-of-length-le}
 use lib.Seq.{sets, drop-cons}
-use borrow.Author.Tests.{eq-eqb, ne-eqb}
 use Rattle.model.specs.Occurrence.{consIf}
 use Rattle.words.specs.ForwardStep.{topBit}
 use Rattle.stepping.specs.declared.Masks.{Masks}
@@ -43,11 +42,10 @@ module _ {t : List ℕ} {m : Masks} {text ends₀ ends : List ℕ} {d₀ at₀ n
     e = rw (← eb) es
 
     -- no end there
-    pub passed : (d′ / 2 ^ (m .top) % 2 ≡ 1 → ⊥) → Going t m text ends₀ d₀ at₀ n₀ i₀ ends d′ (at + 1) n (i + 1)
-    unfolding topBit
-    passed z =
+    pub passed : {r : Bool} → r ≡ topBit (m .top) d′ → r ≡ false → Going t m text ends₀ d₀ at₀ n₀ i₀ ends d′ (at + 1) n (i + 1)
+    passed er z =
         let q : endsIn t m d at (drop i text) ≡ endsIn t m d′ (at + 1) (drop (i + 1) text) =
-        rw (ends-turn t m d at text i h, ← e, ne-eqb _ _ z) in
+        rw (ends-turn t m d at text i h, ← e, ← er, z) in
         record {
           fore = omega arith;
           within = omega arith;
@@ -60,11 +58,10 @@ module _ {t : List ℕ} {m : Masks} {text ends₀ ends : List ℕ} {d₀ at₀ n
         }
 
     -- an end there, which is stored
-    pub ended : d′ / 2 ^ (m .top) % 2 ≡ 1 → Going t m text ends₀ d₀ at₀ n₀ i₀ (set ends n (at + 1)) d′ (at + 1) (n + 1) (i + 1)
-    unfolding topBit
-    ended z =
+    pub ended : {r : Bool} → r ≡ topBit (m .top) d′ → r ≡ true → Going t m text ends₀ d₀ at₀ n₀ i₀ (set ends n (at + 1)) d′ (at + 1) (n + 1) (i + 1)
+    ended er z =
         let q : endsIn t m d at (drop i text) ≡ (at + 1) ∷ endsIn t m d′ (at + 1) (drop (i + 1) text) =
-        rw (ends-turn t m d at text i h, ← e, eq-eqb _ _ z) in
+        rw (ends-turn t m d at text i h, ← e, ← er, z) in
         record {
           fore = omega arith;
           within = omega arith;
@@ -77,8 +74,8 @@ module _ {t : List ℕ} {m : Masks} {text ends₀ ends : List ℕ} {d₀ at₀ n
         }
 
     -- the walk ends after that byte, and no end is there
-    pub stopped : (d′ / 2 ^ (m .top) % 2 ≡ 1 → ⊥) → Walked t m text ends₀ d₀ at₀ n₀ i₀ (record { d = d′; at = at + 1; n = n; i = i + 1 }) ends
-    stopped z = record { moves = omega arith; going = passed z }
+    pub stopped : {r : Bool} → r ≡ topBit (m .top) d′ → r ≡ false → Walked t m text ends₀ d₀ at₀ n₀ i₀ (record { d = d′; at = at + 1; n = n; i = i + 1 }) ends
+    stopped er z = record { moves = omega arith; going = passed er z }
 
   -- or at the end of the text
   pub walked : i₀ < length text → length text ≤ i → Walked t m text ends₀ d₀ at₀ n₀ i₀ (record { d = d; at = at; n = n; i = i }) ends
@@ -125,14 +122,14 @@ set-out t m text ends₀ d₀ at₀ n₀ i₀ h o = record { going = begun t m t
 module _ {t : List ℕ} {m : Masks} {text ends₀ ends : List ℕ} {d₀ at₀ n₀ i₀ d at n i : ℕ}
     (g : Strolling t m text ends₀ d₀ at₀ n₀ i₀ ends d at n i) where
   module _ {b d′ : ℕ} (h : i < length text) (eb : b ≡ getD text i 0) (es : d′ ≡ stepOn t m d b) where
-    pub stroll-passed : (d′ / 2 ^ (m .top) % 2 ≡ 1 → ⊥) → Strolling t m text ends₀ d₀ at₀ n₀ i₀ ends d′ (at + 1) n (i + 1)
-    stroll-passed z = record { going = passed (g .going) h eb es z; odd = step-odd m d (getD t b 0) d′ es }
+    pub stroll-passed : {r : Bool} → r ≡ topBit (m .top) d′ → r ≡ false → Strolling t m text ends₀ d₀ at₀ n₀ i₀ ends d′ (at + 1) n (i + 1)
+    stroll-passed er z = record { going = passed (g .going) h eb es er z; odd = step-odd m d (getD t b 0) d′ es }
 
-    pub stroll-ended : d′ / 2 ^ (m .top) % 2 ≡ 1 → Strolling t m text ends₀ d₀ at₀ n₀ i₀ (set ends n (at + 1)) d′ (at + 1) (n + 1) (i + 1)
-    stroll-ended z = record { going = ended (g .going) h eb es z; odd = step-odd m d (getD t b 0) d′ es }
+    pub stroll-ended : {r : Bool} → r ≡ topBit (m .top) d′ → r ≡ true → Strolling t m text ends₀ d₀ at₀ n₀ i₀ (set ends n (at + 1)) d′ (at + 1) (n + 1) (i + 1)
+    stroll-ended er z = record { going = ended (g .going) h eb es er z; odd = step-odd m d (getD t b 0) d′ es }
 
-    pub stroll-stopped : (d′ / 2 ^ (m .top) % 2 ≡ 1 → ⊥) → Walked t m text ends₀ d₀ at₀ n₀ i₀ (record { d = d′; at = at + 1; n = n; i = i + 1 }) ends
-    stroll-stopped z = stopped (g .going) h eb es z
+    pub stroll-stopped : {r : Bool} → r ≡ topBit (m .top) d′ → r ≡ false → Walked t m text ends₀ d₀ at₀ n₀ i₀ (record { d = d′; at = at + 1; n = n; i = i + 1 }) ends
+    stroll-stopped er z = stopped (g .going) h eb es er z
 
   pub stroll-over : i₀ < length text → length text ≤ i → Walked t m text ends₀ d₀ at₀ n₀ i₀ (record { d = d; at = at; n = n; i = i }) ends
   stroll-over h s = walked (g .going) h s
@@ -143,13 +140,13 @@ module _ {t : List ℕ} {m : Masks} {text ends : List ℕ} {s : Spot} {b d′ : 
   start : Going t m text ends (s .d) (s .at) (s .n) (s .i) ends (s .d) (s .at) (s .n) (s .i)
   start = begun t m text ends (s .d) (s .at) (s .n) (s .i) (omega arith)
 
-  pub one-passed : (d′ / 2 ^ (m .top) % 2 ≡ 1 → ⊥)
+  pub one-passed : {r : Bool} → r ≡ topBit (m .top) d′ → r ≡ false
       → Walked t m text ends (s .d) (s .at) (s .n) (s .i) (record { d = d′; at = s .at + 1; n = s .n; i = s .i + 1 }) ends
-  one-passed z = stopped start (room .left) eb es z
+  one-passed er z = stopped start (room .left) eb es er z
 
-  pub one-ended : d′ / 2 ^ (m .top) % 2 ≡ 1
+  pub one-ended : {r : Bool} → r ≡ topBit (m .top) d′ → r ≡ true
       → Walked t m text ends (s .d) (s .at) (s .n) (s .i) (record { d = d′; at = s .at + 1; n = s .n + 1; i = s .i + 1 }) (set ends (s .n) (s .at + 1))
-  one-ended z = record { moves = omega arith; going = ended start (room .left) eb es z }
+  one-ended er z = record { moves = omega arith; going = ended start (room .left) eb es er z }
 
 -- a scan that has come to the end of the text from its front
 pub over : {t : List ℕ} {m : Masks} {text ends₀ ends : List ℕ} {d₀ base d at n i : ℕ} → Going t m text ends₀ d₀ base 0 0 ends d at n i

@@ -98,7 +98,7 @@ fn walk_plain(
         d = step_plain(d, table[c], m);
         at += 1;
         i += 1;
-        if (d >> m.top) % 2 == 1 {
+        if words::reports(d, m.top) {
             ends[n] = at;
             n += 1;
         } else if d == home {
@@ -147,7 +147,7 @@ fn walk_over(
         d = step_over(d, table[c], m, first, last);
         at += 1;
         i += 1;
-        if (d >> m.top) % 2 == 1 {
+        if words::reports(d, m.top) {
             ends[n] = at;
             n += 1;
         } else if d == home {
@@ -182,7 +182,7 @@ fn walk_one(table: &[u64], m: Masks, text: &[u8], ends: &mut [u32], s: Spot) -> 
     let d = step(s.d, table[c], m);
     let at = s.at + 1;
     let past = i + 1;
-    if (d >> m.top) % 2 == 1 {
+    if words::reports(d, m.top) {
         ends[n] = at;
         let more = n + 1;
         return Spot {
@@ -200,7 +200,15 @@ fn walk_one(table: &[u64], m: Masks, text: &[u8], ends: &mut [u32], s: Spot) -> 
     }
 }
 
-fn walk(table: &[u64], m: Masks, home: u64, stop: usize, text: &[u8], ends: &mut [u32], s: Spot) -> Spot
+fn walk(
+    table: &[u64],
+    m: Masks,
+    home: u64,
+    stop: usize,
+    text: &[u8],
+    ends: &mut [u32],
+    s: Spot,
+) -> Spot
     requires { ⌜ length (now table) ≡ 256 ⌝ }
     requires { ⌜ m .top < 64 ⌝ }
     requires { ⌜ Room s (now text) (now ends) ⌝ }
@@ -216,7 +224,16 @@ fn walk(table: &[u64], m: Masks, home: u64, stop: usize, text: &[u8], ends: &mut
 }
 
 // The next start that has the pair, if it can still be told. The tables are there for the contract alone.
-fn pass_pair(table: &[u64], m: Masks, a: usize, b: usize, x: u8, y: u8, text: &[u8], i: usize) -> usize
+fn pass_pair(
+    table: &[u64],
+    m: Masks,
+    a: usize,
+    b: usize,
+    x: u8,
+    y: u8,
+    text: &[u8],
+    i: usize,
+) -> usize
     requires { ⌜ Paired (now table) (m .repeats) (m .optional) (m .top) a b x y ⌝ }
     requires { ⌜ i ≤ length (now text) ⌝ }
     ensures { λ r. ⌜ Passed (now (table .entry)) m 1 (now (text .entry)) i r ⌝ }
@@ -274,15 +291,7 @@ fn stop_at(kind: u64, i: usize, j: usize, end: usize) -> usize
 }
 
 // Runs by a plan: passes over what may be passed, and walks on from there.
-fn run_by(
-    table: &[u64],
-    m: Masks,
-    p: Plan,
-    d: u64,
-    base: u32,
-    text: &[u8],
-    ends: &mut [u32],
-) -> Ran
+fn run_by(table: &[u64], m: Masks, p: Plan, d: u64, base: u32, text: &[u8], ends: &mut [u32]) -> Ran
     requires { ⌜ length (now table) ≡ 256 ⌝ }
     requires { ⌜ m .top < 64 ⌝ }
     requires { ⌜ Planned (now table) (m .repeats) (m .optional) (m .top) p ⌝ }

@@ -10,8 +10,8 @@ opening-requires c κs = search needs
 returns : tie.Need-returns
 returns c = search plan-none
 
-shr-if2 : tie.Need-shr-if2
-shr-if2 c = search needs
+reports-requires : tie.Need-reports-requires
+reports-requires c κs = search needs
 
 returns-2 : tie.Need-returns-2
 returns-2 c = search plan-none
@@ -34,7 +34,7 @@ plan-of-spec =
     (tie.spec
     opening-requires
     returns
-    shr-if2
+    reports-requires
     returns-2
     plan-skip-requires
     returns-3

@@ -25,8 +25,8 @@ add-at c = search needs
 add-past : tie.Need-add-past
 add-past c = search needs
 
-shr-if1 : tie.Need-shr-if1
-shr-if1 c = search needs
+reports-requires : tie.Need-reports-requires
+reports-requires c κs = search needs
 
 mul-ends : tie.Need-mul-ends
 mul-ends c = search needs
@@ -57,7 +57,7 @@ walk-one-spec =
     step-requires
     add-at
     add-past
-    shr-if1
+    reports-requires
     mul-ends
     slice-write-ends
     add-more

@@ -43,8 +43,8 @@ add-at c = search needs
 add-i : tie.Need-add-i Inv-loop μ-loop
 add-i c = search needs
 
-shr-if1 : tie.Need-shr-if1 Inv-loop μ-loop
-shr-if1 c = search needs
+reports-requires : tie.Need-reports-requires Inv-loop μ-loop
+reports-requires c κs = search needs
 
 mul-ends : tie.Need-mul-ends Inv-loop μ-loop
 mul-ends c = search needs
@@ -101,7 +101,7 @@ walk-over-spec =
     step-over-requires
     add-at
     add-i
-    shr-if1
+    reports-requires
     mul-ends
     slice-write-ends
     add-n
