@@ -72,3 +72,8 @@ or-false-right true b e = absurd (T-to e tt)
 pub and-false : (b : Bool) → (b && false) ≡ false
 and-false false = refl
 and-false true = refl
+
+pub not-both : (a b : Bool) → (a ≡ true → b ≡ true → ⊥) → (a && b) ≡ false
+not-both false b n = refl
+not-both true false n = refl
+not-both true true n = absurd (n refl refl)

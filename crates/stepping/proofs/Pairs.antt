@@ -13,7 +13,7 @@ use lib.Pow.{pow-mono}
 use lib.ListN.{length, drop, getD}
 use lib.Bits.{bitAnd, bitOr, and-zero-l, or-zero-r}
 use borrow.Author.Tests.{eq-eqb}
-use Rattle.model.proofs.Truth.{or-false-left, or-false-right}
+use Rattle.model.proofs.Truth.{or-false-left, or-false-right, and-false, not-both, T-to}
 use Rattle.words.specs.Bit.{bit}
 use Rattle.words.specs.ForwardStep.{move, flood, advance, blockStarts, blockEnds, topBit}
 use Rattle.words.proofs.Digits.{bit-above, and-bit, or-bit, none-bit}
@@ -25,7 +25,7 @@ use Rattle.stepping.specs.declared.Masks.{Masks}
 use Rattle.stepping.specs.Stepping.{stepN, stepOn, stateAfter, endsIn}
 use Rattle.stepping.specs.Walking.{Passed}
 use Rattle.stepping.proofs.Steps.{flood-still}
-use Rattle.stepping.proofs.Turns.{state-turn, ends-turn, pass-none, pass-more}
+use Rattle.stepping.proofs.Turns.{state-turn, ends-turn, pass-missed}
 
 -- ---- the step at plain positions
 
@@ -94,12 +94,7 @@ module _ (t : List ℕ) (m : Masks) (a b x y : ℕ) (h : Paired t (m .repeats) (
         rw (wide, kept, or-zero-r) f
       where
         stay : (i : ℕ) → Dec (i < b + 1) → (bit d i && bit (bitAnd e (m .repeats)) i) ≡ false
-        stay i (yes q) = simp (and-bit, no-rep i (omega arith)) (c (bit d i) (bit e i))
-          where
-            c : (p q : Bool) → (p && (q && false)) ≡ false
-            c false q = refl
-            c true false = refl
-            c true true = refl
+        stay i (yes q) = simp (and-bit, no-rep i (omega arith), and-false)
         stay i (no q) = ap (λ (p : Bool). p && bit (bitAnd e (m .repeats)) i) (l i (omega arith))
 
         touch : (i : ℕ) → Dec (i < b + 1) → (bit (plainly d e) i && bit (bitOr (m .optional) (blockStarts 64 (m .optional))) i) ≡ false
@@ -108,11 +103,7 @@ module _ (t : List ℕ) (m : Masks) (a b x y : ℕ) (h : Paired t (m .repeats) (
             ∙ ap (λ (p : Bool). p && bit ((2 ^ 64 - 1) - m .optional) i) (no-opt (suc i) (omega arith)) in
             let o : bit (bitOr (m .optional) (blockStarts 64 (m .optional))) i ≡ false =
             or-bit (m .optional) (blockStarts 64 (m .optional)) i ∙ ap₂ (λ (p q : Bool). p || q) (no-opt i (omega arith)) s in
-            ap (λ (p : Bool). bit (plainly d e) i && p) o ∙ c (bit (plainly d e) i)
-          where
-            c : (p : Bool) → (p && false) ≡ false
-            c false = refl
-            c true = refl
+            ap (λ (p : Bool). bit (plainly d e) i && p) o ∙ and-false (bit (plainly d e) i)
         touch i (no q) = ap (λ (p : Bool). p && bit (bitOr (m .optional) (blockStarts 64 (m .optional))) i) (plainly-below i (omega arith))
 
 -- ---- two states that the rest of the text makes the same of
@@ -133,6 +124,18 @@ alike-turn t m text i d e d′ e′ h sd se zd ze k = record {
 
 -- ---- a start that is no candidate
 
+-- the entry e of byte c has a bit that only x's has
+only-one : (c x n e : ℕ) → ((c ≡ x → ⊥) → bit e (n + 1) ≡ false) → bit e (suc n) ≡ true → c ≡ x
+only-one c x n e f s = go (decLt c x) (decLt x c)
+  where
+    no-way : (c ≡ x → ⊥) → ⊥
+    no-way d = let z : bit e (suc n) ≡ false = rw add-one at (f d) in T-to (sym s ∙ z) tt
+
+    go : Dec (c < x) → Dec (x < c) → c ≡ x
+    go (yes l) q = absurd (no-way (λ e. omega arith))
+    go (no l) (yes q) = absurd (no-way (λ e. omega arith))
+    go (no l) (no q) = omega arith
+
 module _ (t : List ℕ) (m : Masks) (a b x y : ℕ) (h : Paired t (m .repeats) (m .optional) (m .top) a b x y) (text : List ℕ) (k : ℕ) (long : k + b < length text)
     (miss : pairAt text a b x y k ≡ false) where
   abbrev entry : ℕ → ℕ
@@ -140,34 +143,10 @@ module _ (t : List ℕ) (m : Masks) (a b x y : ℕ) (h : Paired t (m .repeats) (
 
   -- a byte that position a + 1, or b + 1, admits
   at-a : bit (entry a) (suc a) ≡ true → getD text (k + a) 0 ≡ x
-  at-a s = go (decLt (getD text (k + a) 0) x) (decLt x (getD text (k + a) 0))
-    where
-      no-way : (getD text (k + a) 0 ≡ x → ⊥) → ⊥
-      no-way n =
-          let z : bit (getD t (getD text (k + a) 0) 0) (a + 1) ≡ false = h .first (getD text (k + a) 0) n in
-          let z′ : bit (getD t (getD text (k + a) 0) 0) (suc a) ≡ false = rw add-one at z in
-          let q : _≡_ {A = Bool} true false = sym s ∙ z′ in
-          let r : _≡_ {A = ℕ} 0 1 = cc in omega arith
-
-      go : Dec (getD text (k + a) 0 < x) → Dec (x < getD text (k + a) 0) → getD text (k + a) 0 ≡ x
-      go (yes l) q = absurd (no-way (λ e. omega arith))
-      go (no l) (yes q) = absurd (no-way (λ e. omega arith))
-      go (no l) (no q) = omega arith
+  at-a s = only-one (getD text (k + a) 0) x a (entry a) (h .first (getD text (k + a) 0)) s
 
   at-b : bit (entry b) (suc b) ≡ true → getD text (k + b) 0 ≡ y
-  at-b s = go (decLt (getD text (k + b) 0) y) (decLt y (getD text (k + b) 0))
-    where
-      no-way : (getD text (k + b) 0 ≡ y → ⊥) → ⊥
-      no-way n =
-          let z : bit (getD t (getD text (k + b) 0) 0) (b + 1) ≡ false = h .second (getD text (k + b) 0) n in
-          let z′ : bit (getD t (getD text (k + b) 0) 0) (suc b) ≡ false = rw add-one at z in
-          let q : _≡_ {A = Bool} true false = sym s ∙ z′ in
-          let r : _≡_ {A = ℕ} 0 1 = cc in omega arith
-
-      go : Dec (getD text (k + b) 0 < y) → Dec (y < getD text (k + b) 0) → getD text (k + b) 0 ≡ y
-      go (yes l) q = absurd (no-way (λ e. omega arith))
-      go (no l) (yes q) = absurd (no-way (λ e. omega arith))
-      go (no l) (no q) = omega arith
+  at-b s = only-one (getD text (k + b) 0) y b (entry b) (h .second (getD text (k + b) 0)) s
 
   -- the two runs j bytes on: e has no bit from j on, d differs from it at most in bit j, and has that bit only where the byte at a was x
   record Near (j d e : ℕ) : Type 0 where
@@ -180,20 +159,15 @@ module _ (t : List ℕ) (m : Masks) (a b x y : ℕ) (h : Paired t (m .repeats) (
   dies : (j d e : ℕ) → j ≤ b → Near j d e → (bit d b && bit (entry j) (suc b)) ≡ false
   dies j d e l n = go (decLt j b)
     where
-      both : (p q : Bool) → (p ≡ true → q ≡ true → ⊥) → (p && q) ≡ false
-      both false q f = refl
-      both true false f = refl
-      both true true f = absurd (f refl refl)
-
       go : Dec (j < b) → (bit d b && bit (entry j) (suc b)) ≡ false
       go (yes s) = ap (λ (p : Bool). p && bit (entry j) (suc b)) (n .same b (λ q. omega arith) ∙ n .under b (omega arith))
       go (no s) =
           let e : j ≡ b = omega arith in
-          both (bit d b) (bit (entry j) (suc b)) (λ p q.
+          not-both (bit d b) (bit (entry j) (suc b)) (λ p q.
           let u : getD text (k + a) 0 ≡ x = n .seen (rw e p) (omega (arith, h .order)) in
           let v : getD text (k + b) 0 ≡ y = at-b (rw e at q) in
           let w : _≡_ {A = Bool} true false = rw (eq-eqb _ _ u, eq-eqb _ _ v) at miss in
-          let r : _≡_ {A = ℕ} 0 1 = cc in omega arith)
+          T-to w tt)
 
   near-on : (j d e : ℕ) → j ≤ b → Near j d e → Near (suc j) (plainly d (entry j)) (plainly e (entry j))
   near-on j d e l n = record {
@@ -288,16 +262,7 @@ module _ (t : List ℕ) (m : Masks) (a b x y : ℕ) (h : Paired t (m .repeats) (
 
 -- ---- all the starts up to r
 
-module _ (t : List ℕ) (m : Masks) (a b x y : ℕ) (h : Paired t (m .repeats) (m .optional) (m .top) a b x y) (text : List ℕ) where
-  run-of : (i n : ℕ) → i + n + b ≤ length text → ((k : ℕ) → i ≤ k → k < i + n → pairAt text a b x y k ≡ false) → Passed t m 1 text i (i + n)
-  run-of i zero l f = rw add-zero (pass-none t m 1 text i (omega arith))
-  run-of i (suc n) l f =
-      let first : Passed t m 1 text i (i + n) = run-of i n (omega arith) (λ k p q. f k p (omega arith)) in
-      let last : Passed t m 1 text (i + n) (i + n + 1) = pass-start t m a b x y h text (i + n) (omega arith) (f (i + n) (omega arith) (omega arith)) in
-      let e : i + n + 1 ≡ i + suc n = omega arith in
-      rw e at (pass-more first last)
-
-  pub pair-passes : (i end r : ℕ) → Missed (pairAt text a b x y) i end r → end + b ≤ length text → Passed t m 1 text i r
-  pair-passes i end r g l =
-      let e : i + (r - i) ≡ r = omega arith in
-      rw e at (run-of i (r - i) (omega arith) (λ k p q. g .none k p (omega arith)))
+pub pair-passes : (t : List ℕ) (m : Masks) (a b x y : ℕ) → Paired t (m .repeats) (m .optional) (m .top) a b x y → (text : List ℕ) (i end r : ℕ)
+    → Missed (pairAt text a b x y) i end r → end + b ≤ length text → Passed t m 1 text i r
+pair-passes t m a b x y h text i end r g l =
+    pass-missed (pairAt text a b x y) (omega arith) (λ k p z. pass-start t m a b x y h text k (omega arith) z) g

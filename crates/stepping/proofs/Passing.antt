@@ -1,52 +1,40 @@
 -- What may be passed over in the opening state: bytes that do not leave it, and starts that miss a pair. Assumes nothing.
 use mathlib.Core.Path.{_≡_, refl, _∙_}
-use Prim.Native.Nat.{ℕ, zero, suc, _+_, _-_, _≤_, _<_}
-use native.Mathlib.Nat.{add-zero}
+use Prim.Native.Nat.{ℕ, _+_, _-_, _≤_, _<_}
 use native.Mathlib.Omega.{arith}
 use mathlib.Core.List.{List}
-use mathlib.Core.Bool.{Bool, true, false, _&&_}
+use mathlib.Core.Bool.{false, _&&_}
 use lib.ListN.{length, getD}
 use lib.Bits.{bitAnd}
 use lib.Dec.{eqb, leb}
 use borrow.Author.Tests.{not-false, eqb-true, eqb-false, leb-true}
+use Rattle.model.proofs.Truth.{not-both}
 use Rattle.looks.specs.Looks.{Missed, leaves, between, same, pairAt}
 use Rattle.looks.proofs.LookLaws.{miss-join}
 use Rattle.plans.specs.declared.Plan.{Plan}
 use Rattle.plans.specs.Plans.{Home, Inside, Paired, Planned}
 use Rattle.stepping.specs.declared.Masks.{Masks}
 use Rattle.stepping.specs.Walking.{Passed}
-use Rattle.stepping.proofs.Turns.{pass-none, pass-more, pass-one}
+use Rattle.stepping.proofs.Turns.{pass-one, pass-missed}
 use Rattle.stepping.proofs.Steps.{stays}
 use Rattle.stepping.proofs.Pairs.{pair-passes}
 
-module _ (t : List ℕ) (m : Masks) (home next : ℕ) (h : Home (m .repeats) (m .optional) (m .top) home next) (text : List ℕ) where
-  -- k bytes that do not leave
-  run-of : (i k : ℕ) → i + k ≤ length text → ((j : ℕ) → i ≤ j → j < i + k → leaves t next text j ≡ false) → Passed t m home text i (i + k)
-  run-of i zero l n = rw add-zero (pass-none t m home text i (omega arith))
-  run-of i (suc k) l n =
-      let first : Passed t m home text i (i + k) = run-of i k (omega arith) (λ j p q. n j p (omega arith)) in
-      let quiet : bitAnd (getD t (getD text (i + k) 0) 0) next ≡ 0 =
-      eqb-true (bitAnd (getD t (getD text (i + k) 0) 0) next) 0 (not-false (eqb (bitAnd (getD t (getD text (i + k) 0) 0) next) 0) (n (i + k) (omega arith) (omega arith))) in
-      let last : Passed t m home text (i + k) (i + k + 1) =
-      pass-one t m home text (i + k) (omega arith) (stays m home next (getD t (getD text (i + k) 0) 0) (h .opens) (h .goes) quiet) (h .silent) in
-      let e : i + k + 1 ≡ i + suc k = omega arith in
-      rw e at (pass-more first last)
-
-  pub passes : (i r : ℕ) → Missed (leaves t next text) i (length text) r → Passed t m home text i r
-  passes i r g =
-      let e : i + (r - i) ≡ r = omega arith in
-      rw e at (run-of i (r - i) (omega arith) (λ j p q. g .none j p (omega arith)))
+-- bytes that do not leave
+pub passes : (t : List ℕ) (m : Masks) (home next : ℕ) → Home (m .repeats) (m .optional) (m .top) home next → (text : List ℕ) (i r : ℕ)
+    → Missed (leaves t next text) i (length text) r → Passed t m home text i r
+passes t m home next h text i r g = pass-missed (leaves t next text) (omega arith) one g
+  where
+    one : (k : ℕ) → k < length text → leaves t next text k ≡ false → Passed t m home text k (k + 1)
+    one k p z =
+        let b : ℕ = getD t (getD text k 0) 0 in
+        let quiet : bitAnd b next ≡ 0 = eqb-true (bitAnd b next) 0 (not-false (eqb (bitAnd b next) 0) z) in
+        pass-one t m home text k p (stays m home next b (h .opens) (h .goes) quiet) (h .silent)
 
 -- where no byte is from lo to hi, none leaves
 pub narrow : (t : List ℕ) (next : ℕ) (text : List ℕ) (lo hi i end r : ℕ) → Inside t next lo hi → Missed (between text lo hi) i end r
     → Missed (leaves t next text) i end r
 narrow t next text lo hi i end r o g =
     record { fore = g .fore; within = g .within; none = λ j p q. rw (o .none (getD text j 0) (g .none j p q)) refl }
-
-both : (a b : Bool) → (a ≡ true → b ≡ true → ⊥) → (a && b) ≡ false
-both false b n = refl
-both true false n = refl
-both true true n = absurd (n refl refl)
 
 -- a range of one byte
 pub narrow-one : (t : List ℕ) (next : ℕ) (text : List ℕ) (x i end r : ℕ) → Inside t next x x → Missed (same text x) i end r
@@ -55,7 +43,7 @@ narrow-one t next text x i end r o g =
     narrow t next text x x i end r o (record { fore = g .fore; within = g .within; none = λ j p q. apart j (g .none j p q) })
   where
     apart : (j : ℕ) → eqb (getD text j 0) x ≡ false → (leb x (getD text j 0) && leb (getD text j 0) x) ≡ false
-    apart j e = both (leb x (getD text j 0)) (leb (getD text j 0) x) (λ l l′.
+    apart j e = not-both (leb x (getD text j 0)) (leb (getD text j 0) x) (λ l l′.
         let p : x ≤ getD text j 0 = leb-true x (getD text j 0) l in
         let q : getD text j 0 ≤ x = leb-true (getD text j 0) x l′ in
         eqb-false (getD text j 0) x e (omega arith))

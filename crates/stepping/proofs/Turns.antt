@@ -3,7 +3,7 @@
 use mathlib.Core.Path.{_≡_, refl, sym, ap, _∙_}
 use mathlib.Core.List.{List, [], _∷_, _++_}
 use mathlib.Core.Bool.{Bool, true, false}
-use Prim.Native.Nat.{ℕ, suc, _+_, _-_, _%_, _^_, _≤_, _<_}
+use Prim.Native.Nat.{ℕ, zero, suc, _+_, _-_, _%_, _^_, _≤_, _<_}
 use native.Mathlib.Numerals.{add-one}
 use native.Mathlib.Nat.{zero-add, add-zero}
 use native.Mathlib.Omega.{arith}
@@ -11,6 +11,7 @@ use lib.ListN.{length, drop, getD, set, length-set, drop-of-length-le}
 use lib.Seq.{sets, drop-cons}
 use Rattle.model.specs.Occurrence.{consIf}
 use Rattle.words.specs.ForwardStep.{topBit}
+use Rattle.looks.specs.Looks.{Missed}
 use Rattle.stepping.specs.declared.Masks.{Masks}
 use Rattle.stepping.specs.declared.Spot.{Spot}
 use Rattle.stepping.specs.Stepping.{stepOn, stateAfter, endsIn, Scanned}
@@ -148,7 +149,7 @@ module _ {t : List ℕ} {m : Masks} {text ends : List ℕ} {s : Spot} {b d′ : 
       → Walked t m text ends (s .d) (s .at) (s .n) (s .i) (record { d = d′; at = s .at + 1; n = s .n + 1; i = s .i + 1 }) (set ends (s .n) (s .at + 1))
   one-ended er z = record { moves = omega arith; going = ended start (room .left) eb es er z }
 
--- a scan that has come to the end of the text from its front
+-- a run that has come to the end of the text from its front
 pub over : {t : List ℕ} {m : Masks} {text ends₀ ends : List ℕ} {d₀ base d at n i : ℕ} → Going t m text ends₀ d₀ base 0 0 ends d at n i
     → length text ≤ i → length text ≤ length ends₀ → Scanned t m d₀ base text ends₀ (record { d = d; count = n }) ends
 unfolding stateAfter endsIn
@@ -187,7 +188,21 @@ pass-one t m d text i h e z = record {
       rw q (sym (rw (e, z) at (ends-turn t m d at text i h)));
 }
 
--- ---- a turn of the scan by a plan: a pass, then a walk
+-- places that a test misses, where each that it misses may be passed over
+pub pass-missed : {t : List ℕ} {m : Masks} {d : ℕ} {text : List ℕ} (f : ℕ → Bool) {i end r : ℕ} → end ≤ length text
+    → ((k : ℕ) → k < end → f k ≡ false → Passed t m d text k (k + 1)) → Missed f i end r → Passed t m d text i r
+pass-missed {t} {m} {d} {text} f {i} {end} {r} w one g =
+    let e : i + (r - i) ≡ r = omega arith in
+    rw e at (go (r - i) (omega arith))
+  where
+    go : (n : ℕ) → i + n ≤ r → Passed t m d text i (i + n)
+    go zero l = rw add-zero (pass-none t m d text i (omega arith))
+    go (suc n) l =
+        let last : Passed t m d text (i + n) (i + n + 1) = one (i + n) (omega arith) (g .none (i + n) (omega arith) (omega arith)) in
+        let e : i + n + 1 ≡ i + suc n = omega arith in
+        rw e at (pass-more (go n (omega arith)) last)
+
+-- ---- a turn of a run by a plan: a pass, then a walk
 
 module _ {t : List ℕ} {m : Masks} {text ends₀ ends : List ℕ} {d₀ base d at n i j : ℕ}
     (g : Going t m text ends₀ d₀ base 0 0 ends d at n i) (p : Passed t m d text i j) where

@@ -182,7 +182,8 @@ fn walk_one(table: &[u64], m: Masks, text: &[u8], ends: &mut [u32], s: Spot) -> 
     let d = step(s.d, table[c], m);
     let at = s.at + 1;
     let past = i + 1;
-    if words::reports(d, m.top) {
+    let is_end = words::reports(d, m.top);
+    if is_end {
         ends[n] = at;
         let more = n + 1;
         return Spot {
