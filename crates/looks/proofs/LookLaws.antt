@@ -79,11 +79,13 @@ pub leaves-one : (t : List ℕ) (next : ℕ) (text : List ℕ) (i₀ end i c : �
 leaves-one t next text i₀ end i c h e z g =
     miss-one (leaves t next text) i₀ end i g h (ap not (eq-eqb (bitAnd (getD t (getD text i 0) 0) next) 0 (rw (← e) z)))
 
-pub meets-one : (t : List ℕ) (next i₀ end c : ℕ) → c < end → bitAnd (getD t c 0) next ≡ 0 → Missed (meets t next) i₀ end c → Missed (meets t next) i₀ end (c + 1)
+pub meets-one : (t : List ℕ) (next i₀ end c : ℕ) → c < end → bitAnd (getD t c 0) next ≡ 0 → Missed (meets t next) i₀ end c
+    → Missed (meets t next) i₀ end (c + 1)
 meets-one t next i₀ end c h z g = miss-one (meets t next) i₀ end c g h (ap not (eq-eqb (bitAnd (getD t c 0) next) 0 z))
 
 -- the same from the end downwards
-pub meets-down : (t : List ℕ) (next c end : ℕ) → 0 < c → bitAnd (getD t (c - 1) 0) next ≡ 0 → Missed (meets t next) c end end → Missed (meets t next) (c - 1) end end
+pub meets-down : (t : List ℕ) (next c end : ℕ) → 0 < c → bitAnd (getD t (c - 1) 0) next ≡ 0 → Missed (meets t next) c end end
+    → Missed (meets t next) (c - 1) end end
 meets-down t next c end h z g = record { fore = omega arith; within = omega arith; none = λ j p q. go j p q (decLt j c) }
   where
     go : (j : ℕ) → c - 1 ≤ j → j < end → Dec (j < c) → meets t next j ≡ false

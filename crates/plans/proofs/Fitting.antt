@@ -45,7 +45,7 @@ share-on t once twice c e h q g = record {
     met : (p q : Bool) → (p ≡ false → q ≡ false) → (r : Bool) → (p && r) ≡ false → (q && r) ≡ false
     met p q f false z = and-false q
     met false q f true z = rw (f refl) refl
-    met true q f true z = absurd (let r : _≡_ {A = ℕ} 0 1 = cc in omega arith)
+    met true q f true z = absurd (T-to z tt)
 
     two : (i i′ : ℕ) → i < i′ → i′ < c + 1 → (j : ℕ) → bit twice j ≡ false → (bit once j && bit e j) ≡ false → Dec (i′ < c)
         → (bit (getD t i 0) j && bit (getD t i′ 0) j) ≡ false
@@ -94,10 +94,11 @@ alone-yes t w p x k c s e q z = record { only = λ y d n. go y d n (decLt d x) (
 
 -- ---- the pair
 
-pub fit-no : (t : List ℕ) (repeats optional top : ℕ) (p q x y : ℕ) → Fit t repeats optional top p q x y false
+pub fit-no : (t : List ℕ) (repeats optional top p q x y : ℕ) → Fit t repeats optional top p q x y false
 fit-no t repeats optional top p q x y = record { pair = λ e. absurd (T-to (sym e) tt) }
 
-pub fit-yes : (t : List ℕ) (repeats optional top : ℕ) (p q x y : ℕ) (s r r′ : Bool) → Plain repeats optional top p q s → not s ≡ false → Alone t p x r → not r ≡ false → Alone t q y r′ → Fit t repeats optional top p q x y r′
+pub fit-yes : (t : List ℕ) (repeats optional top p q x y : ℕ) (s r r′ : Bool) → Plain repeats optional top p q s → not s ≡ false → Alone t p x r
+    → not r ≡ false → Alone t q y r′ → Fit t repeats optional top p q x y r′
 fit-yes t repeats optional top p q x y s r r′ g ns ax nr ay = record { pair = made }
   where
     es : s ≡ true
@@ -124,10 +125,17 @@ fit-yes t repeats optional top p q x y s r r′ g ns ax nr ay = record { pair = 
           second = λ c n. rw i′ (ay .only e c n);
         }
 
-pub plain-no : (repeats optional top : ℕ) (p q : ℕ) → Plain repeats optional top p q false
+pub plain-no : (repeats optional top p q : ℕ) → Plain repeats optional top p q false
 plain-no repeats optional top p q =
-    let no : _≡_ {A = Bool} false true → ⊥ = λ e. (let r : _≡_ {A = ℕ} 0 1 = cc in omega arith) in
-    record { first = λ e. absurd (no e); order = λ e. absurd (no e); high = λ e. absurd (no e); word = λ e. absurd (no e); free = λ e. absurd (no e); above = λ e. absurd (no e) }
+    let no : _≡_ {A = Bool} false true → ⊥ = λ e. T-to (sym e) tt in
+    record {
+      first = λ e. absurd (no e);
+      order = λ e. absurd (no e);
+      high = λ e. absurd (no e);
+      word = λ e. absurd (no e);
+      free = λ e. absurd (no e);
+      above = λ e. absurd (no e);
+    }
 
 pub plain-yes : (repeats optional top p q low : ℕ) → 1 ≤ p → p < q → q ≤ 62 → optional < 2 ^ 64 → low ≡ 2 ^ (q + 1) - 1
     → bitAnd (bitOr optional repeats) low ≡ 0 → Plain repeats optional top p q (leb q top)
@@ -141,7 +149,8 @@ plain-yes repeats optional top p q low hp hq hh hw el z = record {
 }
 
 -- the plan by a pair
-pub plan-pair : (t : List ℕ) (repeats optional top : ℕ) (home next p q x y a b : ℕ) (r : Bool) → Home repeats optional top home next → home ≡ 1 → Fit t repeats optional top p q x y r → r ≡ true
+pub plan-pair : (t : List ℕ) (repeats optional top home next p q x y a b : ℕ) (r : Bool) → Home repeats optional top home next → home ≡ 1
+    → Fit t repeats optional top p q x y r → r ≡ true
     → a ≡ p - 1 → b ≡ q - 1 → Planned t repeats optional top (record { kind = 4; home = home; next = next; lo = x; hi = y; a = a; b = b })
 plan-pair t repeats optional top home next p q x y a b r h e f er ea eb =
     record { home = λ k. h; one = λ z. absurd (omega arith); range = λ z. absurd (omega arith); pair = λ z. (e, pair) }

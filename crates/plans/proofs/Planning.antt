@@ -37,7 +37,8 @@ pub home-is : (repeats optional top home next : ℕ) (r : Bool) → home ≡ ope
 home-is repeats optional top home next r eh en er z = record { opens = eh; goes = en; silent = sym er ∙ z }
 
 -- nothing is passed over
-pub plan-none : (t : List ℕ) (repeats optional top : ℕ) (home next lo hi a b : ℕ) → Planned t repeats optional top (record { kind = 0; home = home; next = next; lo = lo; hi = hi; a = a; b = b })
+pub plan-none : (t : List ℕ) (repeats optional top home next lo hi a b : ℕ)
+    → Planned t repeats optional top (record { kind = 0; home = home; next = next; lo = lo; hi = hi; a = a; b = b })
 plan-none t repeats optional top home next lo hi a b =
     record { home = λ n. absurd (n refl); one = λ e. absurd (omega arith); range = λ e. absurd (omega arith); pair = λ e. absurd (omega arith) }
 
@@ -46,8 +47,10 @@ module _ (t : List ℕ) {repeats optional top home next : ℕ} (h : Home repeats
   plan-table = record { home = λ k. h; one = λ e. absurd (omega arith); range = λ e. absurd (omega arith); pair = λ e. absurd (omega arith) }
 
   module _ {lo past : ℕ} (n : length t ≡ 256) (g : Missed (meets t next) 0 256 lo) (g′ : Missed (meets t next) past 256 256) where
-    pub plan-one : {a b : ℕ} → lo < past → lo ≡ past - 1 → Planned t repeats optional top (record { kind = 2; home = home; next = next; lo = lo; hi = lo; a = a; b = b })
+    pub plan-one : {a b : ℕ} → lo < past → lo ≡ past - 1
+        → Planned t repeats optional top (record { kind = 2; home = home; next = next; lo = lo; hi = lo; a = a; b = b })
     plan-one l e = record { home = λ k. h; one = λ k. inside t next lo lo past n g g′ (omega arith); range = λ e. absurd (omega arith); pair = λ e. absurd (omega arith) }
 
-    pub plan-range : {a b : ℕ} → lo < past → Planned t repeats optional top (record { kind = 3; home = home; next = next; lo = lo; hi = past - 1; a = a; b = b })
+    pub plan-range : {a b : ℕ} → lo < past
+        → Planned t repeats optional top (record { kind = 3; home = home; next = next; lo = lo; hi = past - 1; a = a; b = b })
     plan-range l = record { home = λ k. h; one = λ e. absurd (omega arith); range = λ k. inside t next lo (past - 1) past n g g′ (omega arith); pair = λ e. absurd (omega arith) }

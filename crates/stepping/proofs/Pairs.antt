@@ -24,7 +24,7 @@ use Rattle.plans.specs.Plans.{Paired}
 use Rattle.stepping.specs.declared.Masks.{Masks}
 use Rattle.stepping.specs.Stepping.{stepN, stepOn, stateAfter, endsIn}
 use Rattle.stepping.specs.Walking.{Passed}
-use Rattle.stepping.proofs.Steps.{flood-still}
+use Rattle.stepping.proofs.Steps.{flood-still, true-right, one-bit}
 use Rattle.stepping.proofs.Turns.{state-turn, ends-turn, pass-missed}
 
 -- ---- the step at plain positions
@@ -34,11 +34,7 @@ plainly d e = bitOr (bitAnd (d * 2) e) 1
 
 plainly-zero : (d e : ℕ) → bit (plainly d e) 0 ≡ true
 unfolding plainly bit
-plainly-zero d e = or-bit (bitAnd (d * 2) e) 1 0 ∙ t (bit (bitAnd (d * 2) e) 0)
-  where
-    t : (b : Bool) → (b || true) ≡ true
-    t false = refl
-    t true = refl
+plainly-zero d e = or-bit (bitAnd (d * 2) e) 1 0 ∙ true-right (bit (bitAnd (d * 2) e) 0)
 
 or-no : (b : Bool) → (b || false) ≡ b
 or-no false = refl
@@ -52,18 +48,18 @@ plainly-suc : (d e i : ℕ) → bit (plainly d e) (suc i) ≡ (bit d i && bit e 
 unfolding plainly
 plainly-suc d e i =
     or-bit (bitAnd (d * 2) e) 1 (suc i)
-    ∙ ap₂ (λ (p q : Bool). p || q) (and-bit (d * 2) e (suc i) ∙ ap (λ (b : Bool). b && bit e (suc i)) (double-bit d i)) (one i)
+    ∙ ap₂ (λ (p q : Bool). p || q) (and-bit (d * 2) e (suc i) ∙ ap (λ (b : Bool). b && bit e (suc i)) (double-bit d i)) (one-bit i)
     ∙ or-no (bit d i && bit e (suc i))
-  where
-    one : (i : ℕ) → bit 1 (suc i) ≡ false
-    one i = bit-above 1 1 (suc i) (omega arith) (omega arith)
 
 module _ (t : List ℕ) (m : Masks) (a b x y : ℕ) (h : Paired t (m .repeats) (m .optional) (m .top) a b x y) where
-  no-opt : (i : ℕ) → i < b + 2 → bit (m .optional) i ≡ false
-  no-opt i l = or-false-left (bit (m .optional) i) (bit (m .repeats) i) (sym (or-bit (m .optional) (m .repeats) i) ∙ clear-below (bitOr (m .optional) (m .repeats)) (b + 2) (h .plain) i l)
+  neither : (i : ℕ) → i < b + 2 → (bit (m .optional) i || bit (m .repeats) i) ≡ false
+  neither i l = sym (or-bit (m .optional) (m .repeats) i) ∙ clear-below (bitOr (m .optional) (m .repeats)) (b + 2) (h .plain) i l
 
-  no-rep : (i : ℕ) → i < b + 2 → bit (m .repeats) i ≡ false
-  no-rep i l = or-false-right (bit (m .optional) i) (bit (m .repeats) i) (sym (or-bit (m .optional) (m .repeats) i) ∙ clear-below (bitOr (m .optional) (m .repeats)) (b + 2) (h .plain) i l)
+  no-optional : (i : ℕ) → i < b + 2 → bit (m .optional) i ≡ false
+  no-optional i l = or-false-left (bit (m .optional) i) (bit (m .repeats) i) (neither i l)
+
+  no-repeats : (i : ℕ) → i < b + 2 → bit (m .repeats) i ≡ false
+  no-repeats i l = or-false-right (bit (m .optional) i) (bit (m .repeats) i) (neither i l)
 
   -- no end is reported in a state below
   quiet : (d : ℕ) → Below (b + 1) d → topBit (m .top) d ≡ false
@@ -94,15 +90,15 @@ module _ (t : List ℕ) (m : Masks) (a b x y : ℕ) (h : Paired t (m .repeats) (
         rw (wide, kept, or-zero-r) f
       where
         stay : (i : ℕ) → Dec (i < b + 1) → (bit d i && bit (bitAnd e (m .repeats)) i) ≡ false
-        stay i (yes q) = simp (and-bit, no-rep i (omega arith), and-false)
+        stay i (yes q) = simp (and-bit, no-repeats i (omega arith), and-false)
         stay i (no q) = ap (λ (p : Bool). p && bit (bitAnd e (m .repeats)) i) (l i (omega arith))
 
         touch : (i : ℕ) → Dec (i < b + 1) → (bit (plainly d e) i && bit (bitOr (m .optional) (blockStarts 64 (m .optional))) i) ≡ false
         touch i (yes q) =
             let s : bit (blockStarts 64 (m .optional)) i ≡ false = and-bit (m .optional / 2) ((2 ^ 64 - 1) - m .optional) i
-            ∙ ap (λ (p : Bool). p && bit ((2 ^ 64 - 1) - m .optional) i) (no-opt (suc i) (omega arith)) in
+            ∙ ap (λ (p : Bool). p && bit ((2 ^ 64 - 1) - m .optional) i) (no-optional (suc i) (omega arith)) in
             let o : bit (bitOr (m .optional) (blockStarts 64 (m .optional))) i ≡ false =
-            or-bit (m .optional) (blockStarts 64 (m .optional)) i ∙ ap₂ (λ (p q : Bool). p || q) (no-opt i (omega arith)) s in
+            or-bit (m .optional) (blockStarts 64 (m .optional)) i ∙ ap₂ (λ (p q : Bool). p || q) (no-optional i (omega arith)) s in
             ap (λ (p : Bool). bit (plainly d e) i && p) o ∙ and-false (bit (plainly d e) i)
         touch i (no q) = ap (λ (p : Bool). p && bit (bitOr (m .optional) (blockStarts 64 (m .optional))) i) (plainly-below i (omega arith))
 
@@ -221,7 +217,8 @@ module _ (t : List ℕ) (m : Masks) (a b x y : ℕ) (h : Paired t (m .repeats) (
       turned j d e (plainly d (entry j)) (plainly e (entry j)) (omega arith) sd se (quiet t m a b x y h (plainly d (entry j)) (n′ .below))
       (quiet t m a b x y h (plainly e (entry j)) eb′) rest
     where
-      turned : (j d e d′ e′ : ℕ) → k + j < length text → stepN m d (entry j) ≡ d′ → stepN m e (entry j) ≡ e′ → topBit (m .top) d′ ≡ false → topBit (m .top) e′ ≡ false
+      turned : (j d e d′ e′ : ℕ) → k + j < length text → stepN m d (entry j) ≡ d′ → stepN m e (entry j) ≡ e′ → topBit (m .top) d′ ≡ false
+          → topBit (m .top) e′ ≡ false
           → Alike t m text (k + j + 1) d′ e′ → Alike t m text (k + j) d e
       turned j d e d′ e′ = alike-turn t m text (k + j) d e d′ e′
 

@@ -75,10 +75,12 @@ module _ {t : List ℕ} {m : Masks} {p : Plan} {d : ℕ} {text : List ℕ} {i : 
       let e : d ≡ 1 = at-home ∙ pl .pair k .0 in
       rw e g
 
-pub is-paired : (t : List ℕ) (m : Masks) (p : Plan) → Planned t (m .repeats) (m .optional) (m .top) p → p .kind ≡ 4 → Paired t (m .repeats) (m .optional) (m .top) (p .a) (p .b) (p .lo) (p .hi)
+pub is-paired : (t : List ℕ) (m : Masks) (p : Plan) → Planned t (m .repeats) (m .optional) (m .top) p → p .kind ≡ 4
+    → Paired t (m .repeats) (m .optional) (m .top) (p .a) (p .b) (p .lo) (p .hi)
 is-paired t m p pl k = pl .pair k .1
 
 -- the pair's starts, up to where the text still has its second byte
-pub to-pair : (t : List ℕ) (m : Masks) (a b x y : ℕ) (text : List ℕ) (i r : ℕ) → Paired t (m .repeats) (m .optional) (m .top) a b x y → i ≤ length text → b ≤ length text - i
+pub to-pair : (t : List ℕ) (m : Masks) (a b x y : ℕ) (text : List ℕ) (i r : ℕ) → Paired t (m .repeats) (m .optional) (m .top) a b x y → i ≤ length text
+    → b ≤ length text - i
     → Missed (pairAt text a b x y) i (length text - b) r → Passed t m 1 text i r
 to-pair t m a b x y text i r h l l′ g = pair-passes t m a b x y h text i (length text - b) r g (omega arith)

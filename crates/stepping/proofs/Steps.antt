@@ -17,7 +17,7 @@ use Rattle.stepping.specs.Stepping.{stepN}
 -- ---- the flood
 
 -- nothing is optional
-pub flood-none : (w d i f : ℕ) → flood w d 0 i f ≡ d
+flood-none : (w d i f : ℕ) → flood w d 0 i f ≡ d
 unfolding flood
 flood-none w d i f = rw (and-zero-l, or-zero-r)
 
@@ -39,7 +39,8 @@ closed-quiet d a i f h e zero = refl
 closed-quiet d a i f h e (suc j) = rw (closed-quiet d a i f h e j) (quiet (d j) (a j) (d (suc j)) (a (suc j)) (rw (← h .starts j) (e j)))
 
 -- An odd word that touches neither a block nor the bit before one stays as it is. (Odd: so position 0 is not optional, or it would touch.)
-pub flood-still : (w d a : ℕ) → d < 2 ^ w → a < 2 ^ w → bit d 0 ≡ true → bitAnd d (bitOr a (blockStarts w a)) ≡ 0 → flood w d a (blockStarts w a) (blockEnds w a) ≡ d
+pub flood-still : (w d a : ℕ) → d < 2 ^ w → a < 2 ^ w → bit d 0 ≡ true → bitAnd d (bitOr a (blockStarts w a)) ≡ 0
+    → flood w d a (blockStarts w a) (blockEnds w a) ≡ d
 flood-still w d a hd ha odd e =
     let t : (j : ℕ) → (bit d j && (bit a j || bit (blockStarts w a) j)) ≡ false =
     λ j. ap (λ (b : Bool). bit d j && b) (sym (or-bit a (blockStarts w a) j)) ∙ apart d (bitOr a (blockStarts w a)) e j in
@@ -57,17 +58,17 @@ flood-still w d a hd ha odd e =
 
 -- ---- the step
 
-pub move-lt : (w d b s : ℕ) → b < 2 ^ w → s < 2 ^ w → 1 < 2 ^ w → move w d b s 1 < 2 ^ w
+move-lt : (w d b s : ℕ) → b < 2 ^ w → s < 2 ^ w → 1 < 2 ^ w → move w d b s 1 < 2 ^ w
 unfolding move
 move-lt w d b s hb hs h =
     or-lt w (bitOr (bitAnd (d * 2 % 2 ^ w) b) (bitAnd d s)) 1
     (or-lt w (bitAnd (d * 2 % 2 ^ w) b) (bitAnd d s) (lt-of-le-of-lt (and-le-r (d * 2 % 2 ^ w) b) hb) (lt-of-le-of-lt (and-le-r d s) hs)) h
 
-true-right : (b : Bool) → (b || true) ≡ true
+pub true-right : (b : Bool) → (b || true) ≡ true
 true-right false = refl
 true-right true = refl
 
-pub move-odd : (w d b s : ℕ) → bit (move w d b s 1) 0 ≡ true
+move-odd : (w d b s : ℕ) → bit (move w d b s 1) 0 ≡ true
 unfolding move bit
 move-odd w d b s =
     or-bit (bitOr (bitAnd (d * 2 % 2 ^ w) b) (bitAnd d s)) 1 0 ∙ true-right (bit (bitOr (bitAnd (d * 2 % 2 ^ w) b) (bitAnd d s)) 0)
@@ -108,7 +109,7 @@ not-kept true true true true e = e
 not-kept true false true true e = e
 
 -- an entry that has no bit of what d can go to, or stay at, moves d to bit 0 alone
-pub move-none : (d b r : ℕ) → bitAnd b (bitOr (d * 2 % 2 ^ 64) (bitAnd d r)) ≡ 0 → move 64 d b (bitAnd b r) 1 ≡ 1
+move-none : (d b r : ℕ) → bitAnd b (bitOr (d * 2 % 2 ^ 64) (bitAnd d r)) ≡ 0 → move 64 d b (bitAnd b r) 1 ≡ 1
 unfolding move
 move-none d b r e =
     let t : (j : ℕ) → (bit b j && (bit (d * 2 % 2 ^ 64) j || (bit d j && bit r j))) ≡ false =
@@ -120,7 +121,8 @@ move-none d b r e =
     rw (u, k)
 
 -- the opening state stays at a byte whose entry has none of its follow-up
-pub stays : (m : Masks) (home next b : ℕ) → home ≡ opening 64 (m .optional) → next ≡ bitOr (home * 2 % 2 ^ 64) (bitAnd home (m .repeats)) → bitAnd b next ≡ 0 → stepN m home b ≡ home
+pub stays : (m : Masks) (home next b : ℕ) → home ≡ opening 64 (m .optional) → next ≡ bitOr (home * 2 % 2 ^ 64) (bitAnd home (m .repeats))
+    → bitAnd b next ≡ 0 → stepN m home b ≡ home
 unfolding stepN advance opening
 stays m home next b eh en z =
     let q : move 64 home b (bitAnd b (m .repeats)) 1 ≡ 1 = move-none home b (m .repeats) (rw (← en) z) in
@@ -128,11 +130,11 @@ stays m home next b eh en z =
 
 -- ---- odd states
 
-pub odd-bit : (x : ℕ) → x % 2 ≡ 1 → bit x 0 ≡ true
+odd-bit : (x : ℕ) → x % 2 ≡ 1 → bit x 0 ≡ true
 unfolding bit
 odd-bit x e = rw e refl
 
-pub bit-odd : (x : ℕ) → bit x 0 ≡ true → x % 2 ≡ 1
+bit-odd : (x : ℕ) → bit x 0 ≡ true → x % 2 ≡ 1
 bit-odd x e = sym (low-oneIf x) ∙ ap oneIf e
 
 -- every step leaves an odd state
@@ -143,7 +145,7 @@ step-odd m d b x e =
     let g : ℕ = bitAnd (m .optional) (bitXor ((2 ^ 64 - 1) - wrapSub 64 (bitOr v (blockEnds 64 (m .optional))) (blockStarts 64 (m .optional))) (bitOr v (blockEnds 64 (m .optional)))) in
     rw e (bit-odd (bitOr v g) (or-bit v g 0 ∙ ap (λ (p : Bool). p || bit g 0) (move-odd 64 d b (bitAnd b (m .repeats)))))
 
-one-bit : (j : ℕ) → bit 1 (suc j) ≡ false
+pub one-bit : (j : ℕ) → bit 1 (suc j) ≡ false
 one-bit j = bit-above 1 1 (suc j) (omega arith) (omega arith)
 
 -- the 1 may stand beside what an odd state keeps

@@ -126,10 +126,12 @@ module _ {t : List ℕ} {m : Masks} {text ends₀ ends : List ℕ} {d₀ at₀ n
     pub stroll-passed : {r : Bool} → r ≡ topBit (m .top) d′ → r ≡ false → Strolling t m text ends₀ d₀ at₀ n₀ i₀ ends d′ (at + 1) n (i + 1)
     stroll-passed er z = record { going = passed (g .going) h eb es er z; odd = step-odd m d (getD t b 0) d′ es }
 
-    pub stroll-ended : {r : Bool} → r ≡ topBit (m .top) d′ → r ≡ true → Strolling t m text ends₀ d₀ at₀ n₀ i₀ (set ends n (at + 1)) d′ (at + 1) (n + 1) (i + 1)
+    pub stroll-ended : {r : Bool} → r ≡ topBit (m .top) d′ → r ≡ true
+        → Strolling t m text ends₀ d₀ at₀ n₀ i₀ (set ends n (at + 1)) d′ (at + 1) (n + 1) (i + 1)
     stroll-ended er z = record { going = ended (g .going) h eb es er z; odd = step-odd m d (getD t b 0) d′ es }
 
-    pub stroll-stopped : {r : Bool} → r ≡ topBit (m .top) d′ → r ≡ false → Walked t m text ends₀ d₀ at₀ n₀ i₀ (record { d = d′; at = at + 1; n = n; i = i + 1 }) ends
+    pub stroll-stopped : {r : Bool} → r ≡ topBit (m .top) d′ → r ≡ false
+        → Walked t m text ends₀ d₀ at₀ n₀ i₀ (record { d = d′; at = at + 1; n = n; i = i + 1 }) ends
     stroll-stopped er z = stopped (g .going) h eb es er z
 
   pub stroll-over : i₀ < length text → length text ≤ i → Walked t m text ends₀ d₀ at₀ n₀ i₀ (record { d = d; at = at; n = n; i = i }) ends

@@ -42,12 +42,13 @@ fn step(d: u64, b: u64, m: Masks) -> u64
     words::advance(d, b, b & m.repeats, 1, m.optional, i, f)
 }
 
-// The move of an odd state. Its bit 0 is kept by the 1 beside `rep`, which does not wait for d: two operations after the shift, not three.
-fn move_odd(d: u64, b: u64, rep: u64) -> u64
+// The move of an odd state. Its bit 0 is kept by the 1 beside `repeats`, which does not wait for d:
+// two operations after the shift, not three.
+fn move_odd(d: u64, b: u64, repeats: u64) -> u64
     requires { ⌜ d % 2 ≡ 1 ⌝ }
-    ensures { λ r. ⌜ r ≡ Step.move 64 d b (bitAnd b rep) 1 ⌝ }
+    ensures { λ r. ⌜ r ≡ Step.move 64 d b (bitAnd b repeats) 1 ⌝ }
 {
-    ((d << 1) & b) | (d & ((b & rep) | 1))
+    ((d << 1) & b) | (d & ((b & repeats) | 1))
 }
 
 // One step of an odd state where nothing is optional: there is nothing to flood.
@@ -59,7 +60,8 @@ fn step_plain(d: u64, b: u64, m: Masks) -> u64
     move_odd(d, b, m.repeats)
 }
 
-// One step of an odd state that floods only where the moved state touches a block or the bit before one.
+// One step of an odd state. It floods only where the moved state touches a block or the bit before
+// one, since the flood changes nothing elsewhere.
 fn step_over(d: u64, b: u64, m: Masks, i: u64, f: u64) -> u64
     requires { ⌜ (i ≡ Step.blockStarts 64 (m .optional)) × (f ≡ Step.blockEnds 64 (m .optional)) ⌝ }
     requires { ⌜ d % 2 ≡ 1 ⌝ }
@@ -72,7 +74,8 @@ fn step_over(d: u64, b: u64, m: Masks, i: u64, f: u64) -> u64
     words::flood(x, m.optional, i, f)
 }
 
-// Steps from a place on, where nothing is optional, until the text ends or, at `stop` or past it, the state is `home`.
+// Steps from a place on, where nothing is optional, until the text ends or, at `stop` or past it, the
+// state is `home`.
 fn walk_plain(
     table: &[u64],
     m: Masks,
@@ -224,7 +227,8 @@ fn walk(
     walk_over(table, m, home, stop, text, ends, s)
 }
 
-// The next start that has the pair, if it can still be told. The tables are there for the contract alone.
+// The next start that has the pair, if it can still be told. Table and masks are there for the
+// contract alone.
 fn pass_pair(
     table: &[u64],
     m: Masks,
@@ -273,8 +277,12 @@ fn pass(table: &[u64], m: Masks, p: Plan, d: u64, text: &[u8], i: usize) -> usiz
     looks::find_leaving(table, p.next, text, i)
 }
 
-// Where a walk from j on may stop at the earliest: it goes on for 16 bytes where the last pass, from i to j, was short, so that a text on
-// which passing does not pay is stepped through for the most part. Only speed hangs on it.
+// A pass of fewer bytes than this does not pay.
+const PASSES_PAY: usize = 16;
+
+// Where a walk from j on may stop at the earliest: it goes on for some bytes where the last pass,
+// from i to j, was short, so that a text on which passing does not pay is stepped through for the
+// most part. Only speed hangs on it.
 fn stop_at(kind: u64, i: usize, j: usize, end: usize) -> usize
     requires { ⌜ i ≤ j ⌝ }
     requires { ⌜ j ≤ end ⌝ }
@@ -282,13 +290,13 @@ fn stop_at(kind: u64, i: usize, j: usize, end: usize) -> usize
     if kind == plans::NO_SKIP {
         return end;
     }
-    if j - i >= 16 {
+    if j - i >= PASSES_PAY {
         return j;
     }
-    if end - j < 16 {
+    if end - j < PASSES_PAY {
         return end;
     }
-    j + 16
+    j + PASSES_PAY
 }
 
 // Runs by a plan: passes over what may be passed, and walks on from there.

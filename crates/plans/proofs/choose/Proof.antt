@@ -1,20 +1,20 @@
 -- `plans::choose` meets its contract. Its laws are in this crate's `proofs/`; `search LAW` finds a law's premises in `c`. Assumes nothing.
-use borrow.Author.Needs.{needs}
 use Prim.Native.Nat.{_-_, _≤_}
+use borrow.Author.Needs.{needs}
 use Rattle.plans.proofs.choose.Statement.{statement}
 use Rattle.plans.proofs.choose.Tie as tie
 
 abbrev Inv-loop : tie.InvT-loop
-Inv-loop t free rank rare r₀ r = 0 ≤ r
+Inv-loop table free rank rare r₀ r = 0 ≤ r
 
 abbrev μ-loop : tie.MeasureT-loop
-μ-loop t free rank rare r₀ r = 256 - r
+μ-loop table free rank rare r₀ r = 256 - r
 
 loop-holds : tie.Need-loop-holds Inv-loop μ-loop
 loop-holds c = search needs
 
-array-read-c : tie.Need-array-read-c Inv-loop μ-loop
-array-read-c c = search needs
+element-copy-out-c : tie.Need-element-copy-out-c Inv-loop μ-loop
+element-copy-out-c c = search needs
 
 index-requires : tie.Need-index-requires Inv-loop μ-loop
 index-requires c κs = search needs
@@ -47,7 +47,7 @@ choose-spec =
     Inv-loop
     μ-loop
     loop-holds
-    array-read-c
+    element-copy-out-c
     index-requires
     mul-e
     shared-slice-read-e
