@@ -18,13 +18,13 @@ use Rattle.words.specs.Bit.{bit}
 use Rattle.words.specs.ForwardStep.{move, flood, advance, blockStarts, blockEnds, topBit}
 use Rattle.words.proofs.Digits.{bit-above, and-bit, or-bit, none-bit}
 use Rattle.words.proofs.Apart.{same-all, and-none, clear-below, Below, below-lt}
+use Rattle.words.proofs.Still.{flood-still, true-right, one-bit}
 use Rattle.words.proofs.Bridge.{top-bit}
 use Rattle.looks.specs.Looks.{Missed, pairAt}
 use Rattle.plans.specs.Plans.{Paired}
 use Rattle.stepping.specs.declared.Masks.{Masks}
 use Rattle.stepping.specs.Stepping.{stepN, stepOn, stateAfter, endsIn}
 use Rattle.stepping.specs.Walking.{Passed}
-use Rattle.stepping.proofs.Steps.{flood-still, true-right, one-bit}
 use Rattle.stepping.proofs.Turns.{state-turn, ends-turn, pass-missed}
 
 -- ---- the step at plain positions

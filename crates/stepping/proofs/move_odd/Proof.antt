@@ -1,5 +1,5 @@
 -- `stepping::move_odd` meets its contract. Its laws are in this crate's `proofs/`; `search LAW` finds a law's premises in `c`. Assumes nothing.
-use Rattle.stepping.proofs.Steps.{move-fold}
+use Rattle.words.proofs.Still.{move-fold}
 use Rattle.stepping.proofs.move_odd.Statement.{statement}
 use Rattle.stepping.proofs.move_odd.Tie as tie
 
