@@ -233,6 +233,7 @@ fn shared(table: &[u64]) -> Seen
     }
 }
 
+// A byte, its rank among the rare ones, and a bit of its entry.
 pub struct Choice {
     pub rank: usize,
     pub byte: u8,
@@ -292,6 +293,7 @@ fn pair_or_skip(
     pair_in_order(table, repeats, optional, top, home, next, twice, q, p, y, x)
 }
 
+// The same where p is to come first.
 fn pair_in_order(
     table: &[u64],
     repeats: u64,

@@ -204,6 +204,7 @@ fn walk_one(table: &[u64], m: Masks, text: &[u8], ends: &mut [u32], s: Spot) -> 
     }
 }
 
+// Walks by the masks: at least one byte, and only one where the state is even.
 fn walk(
     table: &[u64],
     m: Masks,
