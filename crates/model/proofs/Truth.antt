@@ -58,3 +58,22 @@ cond-true false x y t = absurd t
 pub cond-false : {A : Type 0} (b : Bool) (x y : A) → T (not b) → cond b x y ≡ y
 cond-false true x y t = absurd t
 cond-false false x y t = refl
+
+-- ---- the same as equations with false
+
+pub or-false-left : (a b : Bool) → (a || b) ≡ false → a ≡ false
+or-false-left false b e = refl
+or-false-left true b e = absurd (T-to e tt)
+
+pub or-false-right : (a b : Bool) → (a || b) ≡ false → b ≡ false
+or-false-right false b e = e
+or-false-right true b e = absurd (T-to e tt)
+
+pub and-false : (b : Bool) → (b && false) ≡ false
+and-false false = refl
+and-false true = refl
+
+pub not-both : (a b : Bool) → (a ≡ true → b ≡ true → ⊥) → (a && b) ≡ false
+not-both false b n = refl
+not-both true false n = refl
+not-both true true n = absurd (n refl refl)

@@ -1,2 +1,5 @@
 -- Laws on plain values; each function's own file only cites them.
+pub mod Steps
 pub mod Turns
+pub mod Pairs
+pub mod Passing

@@ -1,96 +1,226 @@
--- Stepping over decoded bytes: the invariant of `run`'s loop, on plain numbers and lists, and that a turn keeps it: what the rest of the text would make
--- of the present values is what the whole text makes of the first ones. And stepping over two runs. Assumes nothing.
+-- A run goes on, byte by byte and over what may be passed: what the rest of the text would make of the present place is what the text makes of the
+-- first one. And stepping over two runs of bytes. Assumes nothing.
 use mathlib.Core.Path.{_≡_, refl, sym, ap, _∙_}
 use mathlib.Core.List.{List, [], _∷_, _++_}
 use mathlib.Core.Bool.{Bool, true, false}
-use Prim.Native.Nat.{ℕ, suc, _+_, _/_, _%_, _^_, _≤_, _<_}
+use Prim.Native.Nat.{ℕ, zero, suc, _+_, _-_, _%_, _^_, _≤_, _<_}
 use native.Mathlib.Numerals.{add-one}
 use native.Mathlib.Nat.{zero-add, add-zero}
 use native.Mathlib.Omega.{arith}
 use lib.ListN.{length, drop, getD, set, length-set, drop-of-length-le}
 use lib.Seq.{sets, drop-cons}
-use borrow.Author.Tests.{eq-eqb, ne-eqb}
 use Rattle.model.specs.Occurrence.{consIf}
 use Rattle.words.specs.ForwardStep.{topBit}
+use Rattle.looks.specs.Looks.{Missed}
 use Rattle.stepping.specs.declared.Masks.{Masks}
+use Rattle.stepping.specs.declared.Spot.{Spot}
 use Rattle.stepping.specs.Stepping.{stepOn, stateAfter, endsIn, Scanned}
+use Rattle.stepping.specs.Walking.{Going, Walked, Passed, Room}
+use Rattle.stepping.proofs.Steps.{step-odd}
 
 -- one turn of each definition
 module _ (t : List ℕ) (m : Masks) (d at : ℕ) (text : List ℕ) (i : ℕ) (h : i < length text) where
-  state-turn : stateAfter t m d (drop i text) ≡ stateAfter t m (stepOn t m d (getD text i 0)) (drop (i + 1) text)
+  pub state-turn : stateAfter t m d (drop i text) ≡ stateAfter t m (stepOn t m d (getD text i 0)) (drop (i + 1) text)
   unfolding stateAfter
   state-turn = rw (add-one, drop-cons text i 0)
 
-  ends-turn : endsIn t m d at (drop i text)
+  pub ends-turn : endsIn t m d at (drop i text)
       ≡ consIf (topBit (m .top) (stepOn t m d (getD text i 0))) (at + 1) (endsIn t m (stepOn t m d (getD text i 0)) (at + 1) (drop (i + 1) text))
   unfolding endsIn
   ends-turn = rw (add-one i, drop-cons text i 0)
 
--- the invariant: the loop's present values against those that it began with
-pub record Going (t : List ℕ) (m : Masks) (d₀ base : ℕ) (text ends₀ ends : List ℕ) (d at n i : ℕ) : Type 0 where
-  pub within : i ≤ length text
-  pub place : at ≡ base + i
-  pub few : n ≤ i
-  pub long : length ends ≡ length ends₀
-  pub state : stateAfter t m d (drop i text) ≡ stateAfter t m d₀ text
-  pub count : n + length (endsIn t m d at (drop i text)) ≡ length (endsIn t m d₀ base text)
-  pub list : sets ends n (endsIn t m d at (drop i text)) ≡ sets ends₀ 0 (endsIn t m d₀ base text)
+-- ---- going on
 
-module _ (t : List ℕ) (m : Masks) (d₀ base : ℕ) (text ends₀ : List ℕ) where
-  pub begun : Going t m d₀ base text ends₀ ends₀ d₀ base 0 0
-  begun = record { within = omega arith; place = omega arith; few = omega arith; long = refl; state = refl; count = zero-add _; list = refl }
+pub begun : (t : List ℕ) (m : Masks) (text ends₀ : List ℕ) (d₀ at₀ n₀ i₀ : ℕ) → i₀ ≤ length text → Going t m text ends₀ d₀ at₀ n₀ i₀ ends₀ d₀ at₀ n₀ i₀
+begun t m text ends₀ d₀ at₀ n₀ i₀ h =
+    record { fore = omega arith; within = h; place = refl; few = omega arith; long = refl; state = refl; count = refl; list = refl }
 
-  module _ {ends : List ℕ} {d at n i : ℕ} (g : Going t m d₀ base text ends₀ ends d at n i) where
-    -- b is the byte at i, and d′ the state after it
-    module _ {b d′ : ℕ} (h : i < length text) (eb : b ≡ getD text i 0) (es : d′ ≡ stepOn t m d b) where
-      e : d′ ≡ stepOn t m d (getD text i 0)
-      e = rw (← eb) es
+module _ {t : List ℕ} {m : Masks} {text ends₀ ends : List ℕ} {d₀ at₀ n₀ i₀ d at n i : ℕ}
+    (g : Going t m text ends₀ d₀ at₀ n₀ i₀ ends d at n i) where
+  -- b is the byte at i, and d′ the state after it
+  module _ {b d′ : ℕ} (h : i < length text) (eb : b ≡ getD text i 0) (es : d′ ≡ stepOn t m d b) where
+    e : d′ ≡ stepOn t m d (getD text i 0)
+    e = rw (← eb) es
 
-      -- no end there
-      pub passed : (d′ / 2 ^ (m .top) % 2 ≡ 1 → ⊥) → Going t m d₀ base text ends₀ ends d′ (at + 1) n (i + 1)
-      unfolding topBit
-      passed z =
-          let q : endsIn t m d at (drop i text) ≡ endsIn t m d′ (at + 1) (drop (i + 1) text) =
-          rw (ends-turn t m d at text i h, ← e, ne-eqb _ _ z) in
-          record {
-            within = omega arith;
-            place = omega arith;
-            few = omega arith;
-            long = g .long;
-            state = rw (e, ← state-turn t m d at text i h) (g .state);
-            count = rw (← q) (g .count);
-            list = rw (← q) (g .list);
-          }
+    -- no end there
+    pub passed : {r : Bool} → r ≡ topBit (m .top) d′ → r ≡ false → Going t m text ends₀ d₀ at₀ n₀ i₀ ends d′ (at + 1) n (i + 1)
+    passed er z =
+        let q : endsIn t m d at (drop i text) ≡ endsIn t m d′ (at + 1) (drop (i + 1) text) =
+        rw (ends-turn t m d at text i h, ← e, ← er, z) in
+        record {
+          fore = omega arith;
+          within = omega arith;
+          place = omega arith;
+          few = omega arith;
+          long = g .long;
+          state = rw (e, ← state-turn t m d at text i h) (g .state);
+          count = rw (← q) (g .count);
+          list = rw (← q) (g .list);
+        }
 
-      -- an end there, which is stored
-      pub ended : d′ / 2 ^ (m .top) % 2 ≡ 1 → Going t m d₀ base text ends₀ (set ends n (at + 1)) d′ (at + 1) (n + 1) (i + 1)
-      unfolding topBit
-      ended z =
-          let q : endsIn t m d at (drop i text) ≡ (at + 1) ∷ endsIn t m d′ (at + 1) (drop (i + 1) text) =
-          rw (ends-turn t m d at text i h, ← e, eq-eqb _ _ z) in
-          record {
-            within = omega arith;
-            place = omega arith;
-            few = omega arith;
-            long = length-set ends n (at + 1) ∙ g .long;
-            state = rw (e, ← state-turn t m d at text i h) (g .state);
-            count = omega (arith, ap length q, g .count);
-            list = rw (add-one n) (sym (ap (sets ends n) q) ∙ g .list);
-          }
+    -- an end there, which is stored
+    pub ended : {r : Bool} → r ≡ topBit (m .top) d′ → r ≡ true → Going t m text ends₀ d₀ at₀ n₀ i₀ (set ends n (at + 1)) d′ (at + 1) (n + 1) (i + 1)
+    ended er z =
+        let q : endsIn t m d at (drop i text) ≡ (at + 1) ∷ endsIn t m d′ (at + 1) (drop (i + 1) text) =
+        rw (ends-turn t m d at text i h, ← e, ← er, z) in
+        record {
+          fore = omega arith;
+          within = omega arith;
+          place = omega arith;
+          few = omega arith;
+          long = length-set ends n (at + 1) ∙ g .long;
+          state = rw (e, ← state-turn t m d at text i h) (g .state);
+          count = omega (arith, ap length q, g .count);
+          list = rw (add-one n) (sym (ap (sets ends n) q) ∙ g .list);
+        }
 
-    -- at the end of the text nothing is left to do
-    pub over : length text ≤ i → length text ≤ length ends₀
-        → Scanned t m d₀ base text ends₀ (record { d = d; count = n }) ends
-    unfolding stateAfter endsIn
-    over stop room =
-        let none : drop i text ≡ [] = drop-of-length-le text stop in
-        let s : d ≡ stateAfter t m d₀ text = rw none at (g .state) in
-        let k : n + 0 ≡ length (endsIn t m d₀ base text) = rw none at (g .count) in
-        let l : ends ≡ sets ends₀ 0 (endsIn t m d₀ base text) = rw none at (g .list) in
-        let f = g .few in
-        let w = g .within in
-        let k′ : n ≡ length (endsIn t m d₀ base text) = omega arith in
-        record { state = s; count = k′; few = omega arith; list = l }
+    -- the walk ends after that byte, and no end is there
+    pub stopped : {r : Bool} → r ≡ topBit (m .top) d′ → r ≡ false → Walked t m text ends₀ d₀ at₀ n₀ i₀ (record { d = d′; at = at + 1; n = n; i = i + 1 }) ends
+    stopped er z = record { moves = omega arith; going = passed er z }
+
+  -- or at the end of the text
+  pub walked : i₀ < length text → length text ≤ i → Walked t m text ends₀ d₀ at₀ n₀ i₀ (record { d = d; at = at; n = n; i = i }) ends
+  walked h s = record { moves = omega arith; going = g }
+
+  -- over what may be passed
+  pub leapt : {at′ j : ℕ} → Passed t m d text i j → at′ + i ≡ at + j → Going t m text ends₀ d₀ at₀ n₀ i₀ ends d at′ n j
+  leapt {at′} {j} p e =
+      let q : endsIn t m d at′ (drop j text) ≡ endsIn t m d at (drop i text) = p .ends at at′ e in
+      record {
+        fore = omega arith;
+        within = p .within;
+        place = omega arith;
+        few = omega arith;
+        long = g .long;
+        state = p .state ∙ g .state;
+        count = rw q (g .count);
+        list = rw q (g .list);
+      }
+
+  -- and on
+  pub joined : {ends′ : List ℕ} {d′ at′ n′ i′ : ℕ} → Going t m text ends d at n i ends′ d′ at′ n′ i′ → Going t m text ends₀ d₀ at₀ n₀ i₀ ends′ d′ at′ n′ i′
+  joined k = record {
+    fore = omega arith;
+    within = k .within;
+    place = omega arith;
+    few = omega arith;
+    long = k .long ∙ g .long;
+    state = k .state ∙ g .state;
+    count = k .count ∙ g .count;
+    list = k .list ∙ g .list;
+  }
+
+-- ---- a walk, whose states are odd
+
+pub record Strolling (t : List ℕ) (m : Masks) (text ends₀ : List ℕ) (d₀ at₀ n₀ i₀ : ℕ) (ends : List ℕ) (d at n i : ℕ) : Type 0 where
+  pub going : Going t m text ends₀ d₀ at₀ n₀ i₀ ends d at n i
+  pub odd : d % 2 ≡ 1
+
+pub set-out : (t : List ℕ) (m : Masks) (text ends₀ : List ℕ) (d₀ at₀ n₀ i₀ : ℕ) → i₀ ≤ length text → d₀ % 2 ≡ 1
+    → Strolling t m text ends₀ d₀ at₀ n₀ i₀ ends₀ d₀ at₀ n₀ i₀
+set-out t m text ends₀ d₀ at₀ n₀ i₀ h o = record { going = begun t m text ends₀ d₀ at₀ n₀ i₀ h; odd = o }
+
+module _ {t : List ℕ} {m : Masks} {text ends₀ ends : List ℕ} {d₀ at₀ n₀ i₀ d at n i : ℕ}
+    (g : Strolling t m text ends₀ d₀ at₀ n₀ i₀ ends d at n i) where
+  module _ {b d′ : ℕ} (h : i < length text) (eb : b ≡ getD text i 0) (es : d′ ≡ stepOn t m d b) where
+    pub stroll-passed : {r : Bool} → r ≡ topBit (m .top) d′ → r ≡ false → Strolling t m text ends₀ d₀ at₀ n₀ i₀ ends d′ (at + 1) n (i + 1)
+    stroll-passed er z = record { going = passed (g .going) h eb es er z; odd = step-odd m d (getD t b 0) d′ es }
+
+    pub stroll-ended : {r : Bool} → r ≡ topBit (m .top) d′ → r ≡ true
+        → Strolling t m text ends₀ d₀ at₀ n₀ i₀ (set ends n (at + 1)) d′ (at + 1) (n + 1) (i + 1)
+    stroll-ended er z = record { going = ended (g .going) h eb es er z; odd = step-odd m d (getD t b 0) d′ es }
+
+    pub stroll-stopped : {r : Bool} → r ≡ topBit (m .top) d′ → r ≡ false
+        → Walked t m text ends₀ d₀ at₀ n₀ i₀ (record { d = d′; at = at + 1; n = n; i = i + 1 }) ends
+    stroll-stopped er z = stopped (g .going) h eb es er z
+
+  pub stroll-over : i₀ < length text → length text ≤ i → Walked t m text ends₀ d₀ at₀ n₀ i₀ (record { d = d; at = at; n = n; i = i }) ends
+  stroll-over h s = walked (g .going) h s
+
+-- one byte alone
+module _ {t : List ℕ} {m : Masks} {text ends : List ℕ} {s : Spot} {b d′ : ℕ} (room : Room s text ends) (eb : b ≡ getD text (s .i) 0)
+    (es : d′ ≡ stepOn t m (s .d) b) where
+  start : Going t m text ends (s .d) (s .at) (s .n) (s .i) ends (s .d) (s .at) (s .n) (s .i)
+  start = begun t m text ends (s .d) (s .at) (s .n) (s .i) (omega arith)
+
+  pub one-passed : {r : Bool} → r ≡ topBit (m .top) d′ → r ≡ false
+      → Walked t m text ends (s .d) (s .at) (s .n) (s .i) (record { d = d′; at = s .at + 1; n = s .n; i = s .i + 1 }) ends
+  one-passed er z = stopped start (room .left) eb es er z
+
+  pub one-ended : {r : Bool} → r ≡ topBit (m .top) d′ → r ≡ true
+      → Walked t m text ends (s .d) (s .at) (s .n) (s .i) (record { d = d′; at = s .at + 1; n = s .n + 1; i = s .i + 1 }) (set ends (s .n) (s .at + 1))
+  one-ended er z = record { moves = omega arith; going = ended start (room .left) eb es er z }
+
+-- a run that has come to the end of the text from its front
+pub over : {t : List ℕ} {m : Masks} {text ends₀ ends : List ℕ} {d₀ base d at n i : ℕ} → Going t m text ends₀ d₀ base 0 0 ends d at n i
+    → length text ≤ i → length text ≤ length ends₀ → Scanned t m d₀ base text ends₀ (record { d = d; count = n }) ends
+unfolding stateAfter endsIn
+over {t} {m} {text} {ends₀} {ends} {d₀} {base} {d} {at} {n} {i} g stop room =
+    let none : drop i text ≡ [] = drop-of-length-le text stop in
+    let s : d ≡ stateAfter t m d₀ text = rw none at (g .state) in
+    let k : n + 0 ≡ length (endsIn t m d₀ base text) = rw (none, zero-add) at (g .count) in
+    let l : ends ≡ sets ends₀ 0 (endsIn t m d₀ base text) = rw none at (g .list) in
+    let k′ : n ≡ length (endsIn t m d₀ base text) = omega arith in
+    record { state = s; count = k′; few = omega arith; list = l }
+
+-- ---- passing over
+
+pub pass-none : (t : List ℕ) (m : Masks) (d : ℕ) (text : List ℕ) (i : ℕ) → i ≤ length text → Passed t m d text i i
+pass-none t m d text i h =
+    record { fore = omega arith; within = h; state = refl; ends = λ at at′ e. let q : at′ ≡ at = omega arith in rw q }
+
+pub pass-more : {t : List ℕ} {m : Masks} {d : ℕ} {text : List ℕ} {i j k : ℕ} → Passed t m d text i j → Passed t m d text j k → Passed t m d text i k
+pass-more {t} {m} {d} {text} {i} {j} {k} p q = record {
+  fore = omega arith;
+  within = q .within;
+  state = q .state ∙ p .state;
+  ends = λ at at′ e. let f : at + (j - i) + i ≡ at + j = omega arith in
+      let f′ : at′ + j ≡ at + (j - i) + k = omega arith in
+      q .ends (at + (j - i)) at′ f′ ∙ p .ends at (at + (j - i)) f;
+}
+
+-- a byte that changes nothing, where nothing is reported
+pub pass-one : (t : List ℕ) (m : Masks) (d : ℕ) (text : List ℕ) (i : ℕ) → i < length text → stepOn t m d (getD text i 0) ≡ d → topBit (m .top) d ≡ false
+    → Passed t m d text i (i + 1)
+pass-one t m d text i h e z = record {
+  fore = omega arith;
+  within = omega arith;
+  state = sym (rw e at (state-turn t m d 0 text i h));
+  ends = λ at at′ p. let q : at′ ≡ at + 1 = omega arith in
+      rw q (sym (rw (e, z) at (ends-turn t m d at text i h)));
+}
+
+-- places that a test misses, where each that it misses may be passed over
+pub pass-missed : {t : List ℕ} {m : Masks} {d : ℕ} {text : List ℕ} (f : ℕ → Bool) {i end r : ℕ} → end ≤ length text
+    → ((k : ℕ) → k < end → f k ≡ false → Passed t m d text k (k + 1)) → Missed f i end r → Passed t m d text i r
+pass-missed {t} {m} {d} {text} f {i} {end} {r} w one g =
+    let e : i + (r - i) ≡ r = omega arith in
+    rw e at (go (r - i) (omega arith))
+  where
+    go : (n : ℕ) → i + n ≤ r → Passed t m d text i (i + n)
+    go zero l = rw add-zero (pass-none t m d text i (omega arith))
+    go (suc n) l =
+        let last : Passed t m d text (i + n) (i + n + 1) = one (i + n) (omega arith) (g .none (i + n) (omega arith) (omega arith)) in
+        let e : i + n + 1 ≡ i + suc n = omega arith in
+        rw e at (pass-more (go n (omega arith)) last)
+
+-- ---- a turn of a run by a plan: a pass, then a walk
+
+module _ {t : List ℕ} {m : Masks} {text ends₀ ends : List ℕ} {d₀ base d at n i j : ℕ}
+    (g : Going t m text ends₀ d₀ base 0 0 ends d at n i) (p : Passed t m d text i j) where
+  -- the pass comes to the end
+  pub over-leap : j ≡ length text → length text ≤ length ends₀ → Scanned t m d₀ base text ends₀ (record { d = d; count = n }) ends
+  over-leap e room = over (leapt g {at′ = at + (j - i)} p (omega arith)) (omega arith) room
+
+  -- or the walk has room
+  pub has-room : (j ≡ length text → ⊥) → length text ≤ length ends₀ → base + length text < 2 ^ 32
+      → Room (record { d = d; at = at + (j - i); n = n; i = j }) text ends
+  has-room e room fits = record { left = omega arith; room = omega arith; behind = omega arith; fits = omega arith }
+
+  -- and leads on
+  pub turn : {r : Spot} {ends′ : List ℕ} → Walked t m text ends d (at + (j - i)) n j r ends′
+      → Going t m text ends₀ d₀ base 0 0 ends′ (r .d) (r .at) (r .n) (r .i)
+  turn {r} w = joined (leapt g {at′ = at + (j - i)} p (omega arith)) (w .going)
 
 -- ---- stepping over two runs of bytes is stepping over the first and then over the second
 

@@ -1,9 +1,15 @@
 // The forward step of document 01 over decoded bytes, at any table and masks, the ends stored in a
-// lent list.
+// lent list. `run` promises what the formula gives byte by byte. It floods only where that changes
+// something, and in the opening state passes over bytes that change nothing.
 ghost use mathlib.Core.Path.{_≡_};
-ghost use Prim.Native.Nat.{_+_, _<_, _≤_, _^_};
+ghost use Prim.Native.Nat.{_+_, _%_, _<_, _≤_, _^_};
+ghost use lib.Bits.{bitAnd};
 ghost use lib.ListN.{length};
+ghost use Rattle.words.specs.ForwardStep as Step;
+ghost use Rattle.plans.specs.Plans.{Paired, Planned};
 ghost use Rattle.stepping.specs.Stepping.{stepN, Scanned};
+ghost use Rattle.stepping.specs.Walking.{Walked, Passed, Room};
+use plans::Plan;
 
 // A rule's masks, and the number of its top position.
 pub struct Masks {
@@ -18,6 +24,15 @@ pub struct Ran {
     pub count: usize,
 }
 
+// A place in the text: the state, the count of bytes before it, the count of ends stored, and the
+// index of the next byte.
+pub struct Spot {
+    pub d: u64,
+    pub at: u32,
+    pub n: usize,
+    pub i: usize,
+}
+
 // One byte's step, at its table entry.
 fn step(d: u64, b: u64, m: Masks) -> u64
     ensures { λ r. ⌜ r ≡ stepN m d b ⌝ }
@@ -27,11 +42,303 @@ fn step(d: u64, b: u64, m: Masks) -> u64
     words::advance(d, b, b & m.repeats, 1, m.optional, i, f)
 }
 
-// A byte as an index. Its contract tells a caller the bound, so that no proof in the loop has to.
-fn index(c: u8) -> usize
-    ensures { λ r. ⌜ (r ≡ c) × (r < 256) ⌝ }
+// The move of an odd state. Its bit 0 is kept by the 1 beside `repeats`, which does not wait for d:
+// two operations after the shift, not three.
+fn move_odd(d: u64, b: u64, repeats: u64) -> u64
+    requires { ⌜ d % 2 ≡ 1 ⌝ }
+    ensures { λ r. ⌜ r ≡ Step.move 64 d b (bitAnd b repeats) 1 ⌝ }
 {
-    c as usize
+    ((d << 1) & b) | (d & ((b & repeats) | 1))
+}
+
+// One step of an odd state where nothing is optional: there is nothing to flood.
+fn step_plain(d: u64, b: u64, m: Masks) -> u64
+    requires { ⌜ m .optional ≡ 0 ⌝ }
+    requires { ⌜ d % 2 ≡ 1 ⌝ }
+    ensures { λ r. ⌜ r ≡ stepN m d b ⌝ }
+{
+    move_odd(d, b, m.repeats)
+}
+
+// One step of an odd state. It floods only where the moved state touches a block or the bit before
+// one, since the flood changes nothing elsewhere.
+fn step_over(d: u64, b: u64, m: Masks, i: u64, f: u64) -> u64
+    requires { ⌜ (i ≡ Step.blockStarts 64 (m .optional)) × (f ≡ Step.blockEnds 64 (m .optional)) ⌝ }
+    requires { ⌜ d % 2 ≡ 1 ⌝ }
+    ensures { λ r. ⌜ r ≡ stepN m d b ⌝ }
+{
+    let x = move_odd(d, b, m.repeats);
+    if x & (m.optional | i) == 0 {
+        return x;
+    }
+    words::flood(x, m.optional, i, f)
+}
+
+// Steps from a place on, where nothing is optional, until the text ends or, at `stop` or past it, the
+// state is `home`.
+fn walk_plain(
+    table: &[u64],
+    m: Masks,
+    home: u64,
+    stop: usize,
+    text: &[u8],
+    ends: &mut [u32],
+    s: Spot,
+) -> Spot
+    requires { ⌜ m .optional ≡ 0 ⌝ }
+    requires { ⌜ length (now table) ≡ 256 ⌝ }
+    requires { ⌜ m .top < 64 ⌝ }
+    requires { ⌜ Room s (now text) (now ends) ⌝ }
+    requires { ⌜ s .d % 2 ≡ 1 ⌝ }
+    ensures { λ r. ⌜ Walked (now (table .entry)) m (now (text .entry)) (now (ends .entry)) (s .d) (s .at) (s .n) (s .i) r (now (ends .exit)) ⌝ }
+{
+    let mut d = s.d;
+    let mut at = s.at;
+    let mut n = s.n;
+    let mut i = s.i;
+    while i < text.len() {
+        let c = looks::index(text[i]);
+        d = step_plain(d, table[c], m);
+        at += 1;
+        i += 1;
+        if words::reports(d, m.top) {
+            ends[n] = at;
+            n += 1;
+        } else if d == home {
+            if stop <= i {
+                return Spot {
+                    d: d,
+                    at: at,
+                    n: n,
+                    i: i,
+                };
+            }
+        }
+    }
+    Spot {
+        d: d,
+        at: at,
+        n: n,
+        i: i,
+    }
+}
+
+// The same where positions are optional.
+fn walk_over(
+    table: &[u64],
+    m: Masks,
+    home: u64,
+    stop: usize,
+    text: &[u8],
+    ends: &mut [u32],
+    s: Spot,
+) -> Spot
+    requires { ⌜ length (now table) ≡ 256 ⌝ }
+    requires { ⌜ m .top < 64 ⌝ }
+    requires { ⌜ Room s (now text) (now ends) ⌝ }
+    requires { ⌜ s .d % 2 ≡ 1 ⌝ }
+    ensures { λ r. ⌜ Walked (now (table .entry)) m (now (text .entry)) (now (ends .entry)) (s .d) (s .at) (s .n) (s .i) r (now (ends .exit)) ⌝ }
+{
+    let first = words::block_starts(m.optional);
+    let last = words::block_ends(m.optional);
+    let mut d = s.d;
+    let mut at = s.at;
+    let mut n = s.n;
+    let mut i = s.i;
+    while i < text.len() {
+        let c = looks::index(text[i]);
+        d = step_over(d, table[c], m, first, last);
+        at += 1;
+        i += 1;
+        if words::reports(d, m.top) {
+            ends[n] = at;
+            n += 1;
+        } else if d == home {
+            if stop <= i {
+                return Spot {
+                    d: d,
+                    at: at,
+                    n: n,
+                    i: i,
+                };
+            }
+        }
+    }
+    Spot {
+        d: d,
+        at: at,
+        n: n,
+        i: i,
+    }
+}
+
+// One step by the formula, for a state made by hand that is even.
+fn walk_one(table: &[u64], m: Masks, text: &[u8], ends: &mut [u32], s: Spot) -> Spot
+    requires { ⌜ length (now table) ≡ 256 ⌝ }
+    requires { ⌜ m .top < 64 ⌝ }
+    requires { ⌜ Room s (now text) (now ends) ⌝ }
+    ensures { λ r. ⌜ Walked (now (table .entry)) m (now (text .entry)) (now (ends .entry)) (s .d) (s .at) (s .n) (s .i) r (now (ends .exit)) ⌝ }
+{
+    let i = s.i;
+    let n = s.n;
+    let c = looks::index(text[i]);
+    let d = step(s.d, table[c], m);
+    let at = s.at + 1;
+    let past = i + 1;
+    let is_end = words::reports(d, m.top);
+    if is_end {
+        ends[n] = at;
+        let more = n + 1;
+        return Spot {
+            d: d,
+            at: at,
+            n: more,
+            i: past,
+        };
+    }
+    Spot {
+        d: d,
+        at: at,
+        n: n,
+        i: past,
+    }
+}
+
+// Walks by the masks: at least one byte, and only one where the state is even.
+fn walk(
+    table: &[u64],
+    m: Masks,
+    home: u64,
+    stop: usize,
+    text: &[u8],
+    ends: &mut [u32],
+    s: Spot,
+) -> Spot
+    requires { ⌜ length (now table) ≡ 256 ⌝ }
+    requires { ⌜ m .top < 64 ⌝ }
+    requires { ⌜ Room s (now text) (now ends) ⌝ }
+    ensures { λ r. ⌜ Walked (now (table .entry)) m (now (text .entry)) (now (ends .entry)) (s .d) (s .at) (s .n) (s .i) r (now (ends .exit)) ⌝ }
+{
+    if s.d % 2 != 1 {
+        return walk_one(table, m, text, ends, s);
+    }
+    if m.optional == 0 {
+        return walk_plain(table, m, home, stop, text, ends, s);
+    }
+    walk_over(table, m, home, stop, text, ends, s)
+}
+
+// The next start that has the pair, if it can still be told. Table and masks are there for the
+// contract alone.
+fn pass_pair(
+    table: &[u64],
+    m: Masks,
+    a: usize,
+    b: usize,
+    x: u8,
+    y: u8,
+    text: &[u8],
+    i: usize,
+) -> usize
+    requires { ⌜ Paired (now table) (m .repeats) (m .optional) (m .top) a b x y ⌝ }
+    requires { ⌜ i ≤ length (now text) ⌝ }
+    ensures { λ r. ⌜ Passed (now (table .entry)) m 1 (now (text .entry)) i r ⌝ }
+{
+    if text.len() - i < b {
+        return i;
+    }
+    looks::find_pair(text, a, b, x, y, i, text.len() - b)
+}
+
+// The place up to which nothing happens.
+fn pass(table: &[u64], m: Masks, p: Plan, d: u64, text: &[u8], i: usize) -> usize
+    requires { ⌜ length (now table) ≡ 256 ⌝ }
+    requires { ⌜ Planned (now table) (m .repeats) (m .optional) (m .top) p ⌝ }
+    requires { ⌜ i ≤ length (now text) ⌝ }
+    ensures { λ r. ⌜ Passed (now (table .entry)) m d (now (text .entry)) i r ⌝ }
+{
+    let kind = p.kind;
+    if kind == plans::NO_SKIP {
+        return i;
+    }
+    if d != p.home {
+        return i;
+    }
+    if kind == plans::BY_BYTE {
+        let j = looks::skim_same(text, p.lo, i);
+        return looks::crawl_leaving(table, p.next, text, j);
+    }
+    if kind == plans::BY_RANGE {
+        let j = looks::skim_between(text, p.lo, p.hi, i);
+        return looks::crawl_leaving(table, p.next, text, j);
+    }
+    if kind == plans::BY_PAIR {
+        return pass_pair(table, m, p.a, p.b, p.lo, p.hi, text, i);
+    }
+    looks::find_leaving(table, p.next, text, i)
+}
+
+// A pass of fewer bytes than this does not pay.
+const PASSES_PAY: usize = 16;
+
+// Where a walk from j on may stop at the earliest: it goes on for some bytes where the last pass,
+// from i to j, was short, so that a text on which passing does not pay is stepped through for the
+// most part. Only speed hangs on it.
+fn stop_at(kind: u64, i: usize, j: usize, end: usize) -> usize
+    requires { ⌜ i ≤ j ⌝ }
+    requires { ⌜ j ≤ end ⌝ }
+{
+    if kind == plans::NO_SKIP {
+        return end;
+    }
+    if j - i >= PASSES_PAY {
+        return j;
+    }
+    if end - j < PASSES_PAY {
+        return end;
+    }
+    j + PASSES_PAY
+}
+
+// Runs by a plan: passes over what may be passed, and walks on from there.
+fn run_by(table: &[u64], m: Masks, p: Plan, d: u64, base: u32, text: &[u8], ends: &mut [u32]) -> Ran
+    requires { ⌜ length (now table) ≡ 256 ⌝ }
+    requires { ⌜ m .top < 64 ⌝ }
+    requires { ⌜ Planned (now table) (m .repeats) (m .optional) (m .top) p ⌝ }
+    requires { ⌜ length (now text) ≤ length (now ends) ⌝ }
+    requires { ⌜ base + length (now text) < 2 ^ 32 ⌝ }
+    ensures { λ r. ⌜ Scanned (now (table .entry)) m d base (now (text .entry)) (now (ends .entry)) r (now (ends .exit)) ⌝ }
+{
+    let mut d = d;
+    let mut at = base;
+    let mut n = 0;
+    let mut i = 0;
+    while i < text.len() {
+        let j = pass(table, m, p, d, text, i);
+        if j == text.len() {
+            return Ran { d: d, count: n };
+        }
+        let stop = stop_at(p.kind, i, j, text.len());
+        let r = walk(
+            table,
+            m,
+            p.home,
+            stop,
+            text,
+            ends,
+            Spot {
+                d: d,
+                at: at + (j - i) as u32,
+                n: n,
+                i: j,
+            },
+        );
+        d = r.d;
+        at = r.at;
+        n = r.n;
+        i = r.i;
+    }
+    Ran { d: d, count: n }
 }
 
 // Steps over `text` and stores each end in `ends`, from its front. `base` bytes went before.
@@ -42,20 +349,6 @@ pub fn run(table: &[u64], masks: Masks, d: u64, base: u32, text: &[u8], ends: &m
     requires { ⌜ base + length (now text) < 2 ^ 32 ⌝ }
     ensures { λ r. ⌜ Scanned (now (table .entry)) masks d base (now (text .entry)) (now (ends .entry)) r (now (ends .exit)) ⌝ }
 {
-    let top = masks.top;
-    let mut d = d;
-    let mut at = base;
-    let mut n = 0;
-    let mut i = 0;
-    while i < text.len() {
-        let c = index(text[i]);
-        d = step(d, table[c], masks);
-        at += 1;
-        i += 1;
-        if (d >> top) % 2 == 1 {
-            ends[n] = at;
-            n += 1;
-        }
-    }
-    Ran { d: d, count: n }
+    let p = plans::plan_of(table, masks.repeats, masks.optional, masks.top, text.len());
+    run_by(table, masks, p, d, base, text, ends)
 }

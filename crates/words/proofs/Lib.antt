@@ -1,6 +1,8 @@
 -- Laws of numbers and rows of bits, and the bridge from words to the model.
 pub mod Digits
+pub mod Apart
 pub mod Closure
+pub mod Still
 pub mod Counting
 pub mod MaskLaws
 pub mod Bridge

@@ -3,6 +3,7 @@
 // `proofs/Closure.antt` says what its bits are, and `proofs/Bridge.antt` that it is the step of the
 // model's law where the masks are those of a list of positions.
 ghost use mathlib.Core.Path.{_≡_};
+ghost use Prim.Native.Nat.{_<_};
 ghost use Rattle.words.specs.ForwardStep as Step;
 
 // The states after one byte. d are the states before it, b and s the byte's masks, k the bits that
@@ -48,6 +49,14 @@ pub fn opening(a: u64) -> u64
     ensures { λ r. ⌜ r ≡ Step.opening 64 a ⌝ }
 {
     flood(1, a, block_starts(a), block_ends(a))
+}
+
+// Whether the bit of the top position reports an end.
+pub fn reports(d: u64, top: u64) -> bool
+    requires { ⌜ top < 64 ⌝ }
+    ensures { λ r. ⌜ r ≡ Step.topBit top d ⌝ }
+{
+    (d >> top) % 2 == 1
 }
 
 // How many of the positions p are not optional.

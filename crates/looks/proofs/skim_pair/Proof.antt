@@ -1,0 +1,52 @@
+-- `looks::skim_pair` meets its contract. Its laws are in this crate's `proofs/`; `search LAW` finds a law's premises in `c`. Assumes nothing.
+use borrow.Author.Needs.{needs}
+use Prim.Native.Nat.{_-_}
+use Rattle.looks.proofs.LookLaws.{miss-begun, miss-more}
+use Rattle.looks.specs.Looks.{Missed, pairAt}
+use Rattle.looks.proofs.skim_pair.Statement.{statement}
+use Rattle.looks.proofs.skim_pair.Tie as tie
+
+abbrev Inv-loop : tie.InvT-loop
+Inv-loop text a b x y i end i₀ i' = Missed (pairAt text a b x y) i end i'
+
+abbrev μ-loop : tie.MeasureT-loop
+μ-loop text a b x y i end i₀ i' = end - i'
+
+loop-holds : tie.Need-loop-holds Inv-loop μ-loop
+loop-holds c = search miss-begun
+
+sub-loop : tie.Need-sub-loop Inv-loop μ-loop
+sub-loop c = search needs
+
+any-pair-requires : tie.Need-any-pair-requires Inv-loop μ-loop
+any-pair-requires c κs = search needs
+
+returns : tie.Need-returns Inv-loop μ-loop
+returns c = search needs
+
+add-i : tie.Need-add-i Inv-loop μ-loop
+add-i c = search needs
+
+loop-less : tie.Need-loop-less Inv-loop μ-loop
+loop-less c = search needs
+
+loop-again : tie.Need-loop-again Inv-loop μ-loop
+loop-again c = search miss-more
+
+returns-2 : tie.Need-returns-2 Inv-loop μ-loop
+returns-2 c = search needs
+
+pub skim-pair-spec : {M : Type 1} → statement M
+skim-pair-spec =
+    tie.close
+    (tie.spec
+    Inv-loop
+    μ-loop
+    loop-holds
+    sub-loop
+    any-pair-requires
+    returns
+    add-i
+    loop-less
+    loop-again
+    returns-2)

@@ -1,0 +1,40 @@
+-- Places of a text that a test picks out, and what it is to have looked for them. Assumes nothing.
+use mathlib.Core.Path.{_≡_}
+use mathlib.Core.Bool.{Bool, false, not, _&&_}
+use mathlib.Core.List.{List}
+use Prim.Native.Nat.{ℕ, _+_, _≤_, _<_}
+use lib.Bits.{bitAnd}
+use lib.Dec.{eqb, leb}
+use lib.ListN.{getD}
+
+-- A look at the k places from i on: where it says no, the test picks out none of them.
+pub record Looked (f : ℕ → Bool) (i k : ℕ) (r : Bool) : Type 0 where
+  pub none : r ≡ false → (j : ℕ) → j < k → f (i + j) ≡ false
+
+-- The test picks out none of the places from i up to r; `end` bounds r.
+pub record Missed (f : ℕ → Bool) (i end r : ℕ) : Type 0 where
+  pub fore : i ≤ r
+  pub within : r ≤ end
+  pub none : (j : ℕ) → i ≤ j → j < r → f j ≡ false
+
+-- ---- the tests
+
+-- the entry of byte c in a table meets the word `next`
+abbrev pub meets : (table : List ℕ) (next c : ℕ) → Bool
+meets table next c = not (eqb (bitAnd (getD table c 0) next) 0)
+
+-- so does that of the byte at k
+abbrev pub leaves : (table : List ℕ) (next : ℕ) (text : List ℕ) (k : ℕ) → Bool
+leaves table next text k = meets table next (getD text k 0)
+
+-- the byte at k is from lo to hi
+abbrev pub between : (text : List ℕ) (lo hi k : ℕ) → Bool
+between text lo hi k = leb lo (getD text k 0) && leb (getD text k 0) hi
+
+-- it is x
+abbrev pub same : (text : List ℕ) (x k : ℕ) → Bool
+same text x k = eqb (getD text k 0) x
+
+-- the byte at the offset a from k is x, and that at b is y
+abbrev pub pairAt : (text : List ℕ) (a b x y k : ℕ) → Bool
+pairAt text a b x y k = eqb (getD text (k + a) 0) x && eqb (getD text (k + b) 0) y

@@ -1,0 +1,27 @@
+-- `plans::fits` meets its contract. Its laws are in this crate's `proofs/`; `search LAW` finds a law's premises in `c`. Assumes nothing.
+use borrow.Author.Needs.{needs}
+use Rattle.plans.proofs.Fitting.{fit-no, fit-yes}
+use Rattle.plans.proofs.fits.Statement.{statement}
+use Rattle.plans.proofs.fits.Tie as tie
+
+plain-requires : tie.Need-plain-requires
+plain-requires c κs = search needs
+
+returns : tie.Need-returns
+returns c = search fit-no
+
+alone-requires : tie.Need-alone-requires
+alone-requires c κs = search needs
+
+returns-2 : tie.Need-returns-2
+returns-2 c = search fit-no
+
+alone-requires-2 : tie.Need-alone-requires-2
+alone-requires-2 c κs = search needs
+
+returns-3 : tie.Need-returns-3
+returns-3 c = search fit-yes
+
+pub fits-spec : {M : Type 1} → statement M
+fits-spec =
+    tie.close (tie.spec plain-requires returns alone-requires returns-2 alone-requires-2 returns-3)

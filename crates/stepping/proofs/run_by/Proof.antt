@@ -1,0 +1,74 @@
+-- `stepping::run_by` meets its contract. Its laws are in this crate's `proofs/`; `search LAW` finds a law's premises in `c`. Assumes nothing.
+use borrow.Author.Needs.{needs}
+use Prim.Native.Nat.{_-_}
+use native.Mathlib.Omega.{arith}
+use lib.ListN.{length}
+use Rattle.stepping.specs.Walking.{Going}
+use Rattle.stepping.proofs.Turns.{begun, over, over-leap, has-room, turn}
+use Rattle.stepping.proofs.run_by.Statement.{statement}
+use Rattle.stepping.proofs.run_by.Tie as tie
+
+abbrev Inv-loop : tie.InvT-loop
+Inv-loop t m p d base text ends₀ d₀ at₀ n₀ i₀ ends d' at n i = Going t m text ends₀ d base 0 0 ends d' at n i
+
+abbrev μ-loop : tie.MeasureT-loop
+μ-loop t m p d base text ends₀ d₀ at₀ n₀ i₀ ends d' at n i = length text - i
+
+loop-holds : tie.Need-loop-holds Inv-loop μ-loop
+loop-holds c = begun _ _ _ _ _ _ _ _ (omega arith)
+
+pass-requires : tie.Need-pass-requires Inv-loop μ-loop
+pass-requires c κs = search needs
+
+same-length : tie.Need-same-length Inv-loop μ-loop
+same-length c = search needs
+
+returns : tie.Need-returns Inv-loop μ-loop
+returns c = search over-leap
+
+stop-at-requires : tie.Need-stop-at-requires Inv-loop μ-loop
+stop-at-requires c κs = search needs
+
+sub-t15 : tie.Need-sub-t15 Inv-loop μ-loop
+sub-t15 c = search needs
+
+cast-t19 : tie.Need-cast-t19 Inv-loop μ-loop
+cast-t19 c = search needs
+
+add-t20 : tie.Need-add-t20 Inv-loop μ-loop
+add-t20 c = search needs
+
+walk-requires : tie.Need-walk-requires Inv-loop μ-loop
+walk-requires c κs = search has-room
+
+loop-less : tie.Need-loop-less Inv-loop μ-loop
+loop-less c = search needs
+
+loop-again : tie.Need-loop-again Inv-loop μ-loop
+loop-again c = search turn
+
+same-length-2 : tie.Need-same-length-2 Inv-loop μ-loop
+same-length-2 c = search needs
+
+returns-2 : tie.Need-returns-2 Inv-loop μ-loop
+returns-2 c = search over
+
+pub run-by-spec : {M : Type 1} → statement M
+run-by-spec =
+    tie.close
+    (tie.spec
+    Inv-loop
+    μ-loop
+    loop-holds
+    pass-requires
+    same-length
+    returns
+    stop-at-requires
+    sub-t15
+    cast-t19
+    add-t20
+    walk-requires
+    loop-less
+    loop-again
+    same-length-2
+    returns-2)
