@@ -20,7 +20,8 @@ fn wide(n: u32) -> u64 {
     n as u64
 }
 
-fn number(n: u32) {
+fn number(name: &[u8], n: u32) {
+    text(name);
     text(b" ");
     io::print_decimal(1, wide(n));
 }
@@ -34,7 +35,7 @@ fn list_of(n: usize) {
 fn print_ends(ends: &[u32]) {
     let mut i = 0;
     while i < ends.len() {
-        number(ends[i]);
+        number(b"", ends[i]);
         i += 1;
     }
 }
@@ -57,8 +58,7 @@ fn report(a: Answer, list: &[u32]) -> usize
     ensures { λ r. ⌜ r ≤ length (now (list .entry)) ⌝ }
 {
     if a.number != 0 {
-        text(b" refused");
-        number(a.number);
+        number(b" refused", a.number);
     }
     let n = reported(a, list);
     print_ends(&list[0..n]);
@@ -176,16 +176,11 @@ fn show_cuts(rule: &[u8], fold: u32, plan: &[u8], whole: &[u32]) {
 fn show_opened(rule: &[u8], fold: u32, o: Opened) {
     text(b"open ");
     text(rule);
-    text(b", fold");
-    number(fold);
-    text(b": number");
-    number(o.number);
-    text(b" place");
-    number(o.place);
-    text(b" positions");
-    number(o.positions);
-    text(b" shortest");
-    number(o.shortest);
+    number(b", fold", fold);
+    number(b": number", o.number);
+    number(b" place", o.place);
+    number(b" positions", o.positions);
+    number(b" shortest", o.shortest);
 }
 
 fn show_plan(rule: &[u8], fold: u32, plan: &[u8]) {
@@ -297,14 +292,10 @@ fn show_scan(scan: &[u64], before: &[u64]) {
 }
 
 fn show_answer(a: Answer, list: &[u32]) {
-    text(b" number");
-    number(a.number);
-    text(b" place");
-    number(a.place);
-    text(b" count");
-    number(a.count);
-    text(b" windows");
-    number(a.windows);
+    number(b" number", a.number);
+    number(b" place", a.place);
+    number(b" count", a.count);
+    number(b" windows", a.windows);
     text(b" ends");
     let n = reported(a, list);
     print_ends(&list[0..n]);
@@ -360,64 +351,78 @@ fn finish_to(scan: &mut [u64], list: &mut [u32]) {
     show_scan(scan, &before);
 }
 
-// The calls that those below repeat, with refused ones between them.
-fn plain() {
-    text(b"-- no call refused\n");
-    let mut scan = [0u64; 273];
-    open(b"a&?b?", &mut scan);
-    feed(&mut scan, b"xab&am", 16);
-    feed(&mut scan, b"p;ba&am", 16);
-    finish(&mut scan, 16);
+// The rule and the pieces of most calls below.
+fn open_one(scan: &mut [u64]) {
+    open(b"a&?b?", scan);
 }
 
-fn empty_pieces() {
-    text(b"-- empty pieces\n");
-    let mut scan = [0u64; 273];
-    open(b"a&?b?", &mut scan);
-    feed(&mut scan, b"", 9);
-    feed(&mut scan, b"xab&am", 16);
-    feed(&mut scan, b"", 16);
-    feed(&mut scan, b"p;ba&am", 16);
-    feed(&mut scan, b"", 9);
-    finish(&mut scan, 16);
+fn feed_one(scan: &mut [u64], n: usize)
+    requires { ⌜ n ≤ 18 ⌝ }
+{
+    feed(scan, b"xab&am", n);
 }
 
-fn short_lists() {
-    text(b"-- lists one entry short, and just long enough\n");
-    let mut scan = [0u64; 273];
-    open(b"a&?b?", &mut scan);
-    feed(&mut scan, b"xab&am", 14);
-    feed(&mut scan, b"xab&am", 15);
-    feed(&mut scan, b"", 8);
-    feed(&mut scan, b"p;ba&am", 15);
-    feed(&mut scan, b"p;ba&am", 16);
-    finish(&mut scan, 8);
-    finish(&mut scan, 9);
+fn feed_two(scan: &mut [u64], n: usize)
+    requires { ⌜ n ≤ 18 ⌝ }
+{
+    feed(scan, b"p;ba&am", n);
 }
 
-fn finished() {
-    text(b"-- after the finish\n");
-    let mut scan = [0u64; 273];
-    open(b"a&?b?", &mut scan);
-    feed(&mut scan, b"xab&am", 16);
-    feed(&mut scan, b"p;ba&am", 16);
-    finish(&mut scan, 16);
-    feed(&mut scan, b"ab", 16);
-    finish(&mut scan, 16);
-    feed(&mut scan, b"ab", 0);
-    finish(&mut scan, 0);
+fn feed_none(scan: &mut [u64], n: usize)
+    requires { ⌜ n ≤ 18 ⌝ }
+{
+    feed(scan, b"", n);
 }
 
-fn zeros() {
+fn zeros(scan: &mut [u64]) {
     text(b"-- a scan value of zeros\n");
-    let mut scan = [0u64; 273];
-    feed(&mut scan, b"ab", 16);
-    finish(&mut scan, 16);
-    feed(&mut scan, b"ab", 0);
-    open(b"a&?b?", &mut scan);
-    feed(&mut scan, b"xab&am", 16);
-    feed(&mut scan, b"p;ba&am", 16);
-    finish(&mut scan, 16);
+    feed(scan, b"ab", 16);
+    finish(scan, 16);
+    feed(scan, b"ab", 0);
+}
+
+// The calls that those below repeat, with refused ones between them.
+fn plain(scan: &mut [u64]) {
+    text(b"-- no call refused\n");
+    open_one(scan);
+    feed_one(scan, 16);
+    feed_two(scan, 16);
+    finish(scan, 16);
+}
+
+fn empty_pieces(scan: &mut [u64]) {
+    text(b"-- empty pieces\n");
+    open_one(scan);
+    feed_none(scan, 9);
+    feed_one(scan, 16);
+    feed_none(scan, 16);
+    feed_two(scan, 16);
+    feed_none(scan, 9);
+    finish(scan, 16);
+}
+
+fn short_lists(scan: &mut [u64]) {
+    text(b"-- lists one entry short, and just long enough\n");
+    open_one(scan);
+    feed_one(scan, 14);
+    feed_one(scan, 15);
+    feed_none(scan, 8);
+    feed_two(scan, 15);
+    feed_two(scan, 16);
+    finish(scan, 8);
+    finish(scan, 9);
+}
+
+fn finished(scan: &mut [u64]) {
+    text(b"-- after the finish\n");
+    open_one(scan);
+    feed_one(scan, 16);
+    feed_two(scan, 16);
+    finish(scan, 16);
+    feed(scan, b"ab", 16);
+    finish(scan, 16);
+    feed(scan, b"ab", 0);
+    finish(scan, 0);
 }
 
 // The calls with the first n of some numbers as the scan value.
@@ -456,49 +461,58 @@ fn other_lengths() {
     finish_part(&mut room, 273);
 }
 
-fn refused_rules() {
+fn refused_rules(scan: &mut [u64]) {
     text(b"-- rules refused while a scan is open\n");
-    let mut scan = [0u64; 273];
-    open(b"ab[", &mut scan);
-    open(b"a&?b?", &mut scan);
-    open(b"", &mut scan);
-    feed(&mut scan, b"xab&am", 16);
-    open(b"ab[b-a]", &mut scan);
-    feed(&mut scan, b"p;ba&am", 16);
-    open(b"a?b*", &mut scan);
-    finish(&mut scan, 16);
+    open(b"ab[", scan);
+    open_one(scan);
+    open(b"", scan);
+    feed_one(scan, 16);
+    open(b"ab[b-a]", scan);
+    feed_two(scan, 16);
+    open(b"a?b*", scan);
+    finish(scan, 16);
 }
 
 // ---- bytes held
 
-fn held(last: &[u8]) {
-    let mut scan = [0u64; 273];
-    open(b".", &mut scan);
-    feed(&mut scan, b"&#0000000", 18);
-    feed(&mut scan, last, 18);
-    finish(&mut scan, 18);
+fn held(scan: &mut [u64], last: &[u8]) {
+    open(b".", scan);
+    feed(scan, b"&#0000000", 18);
+    feed(scan, last, 18);
+    finish(scan, 18);
 }
 
-fn nine_held() {
+fn nine_held(scan: &mut [u64]) {
     text(b"-- nine bytes held, then a tenth\n");
-    held(b"x");
-    held(b";");
-    held(b"0");
-    held(b"&");
-    held(b"");
+    held(scan, b"x");
+    held(scan, b";");
+    held(scan, b"0");
+    held(scan, b"&");
+    held(scan, b"");
 }
 
 // A raw count near the limit, written by hand.
 fn limit() {
     text(b"-- the limit of the raw count\n");
     let mut scan = [0u64; 273];
-    open(b"a&?b?", &mut scan);
+    open_one(&mut scan);
     scan[scan_values::RAW] = 4294967290;
-    feed(&mut scan, b"xab&am", 16);
+    feed_one(&mut scan, 16);
     feed(&mut scan, b"xab&a", 16);
     feed(&mut scan, b"m", 16);
-    feed(&mut scan, b"", 16);
+    feed_none(&mut scan, 16);
     finish(&mut scan, 16);
+}
+
+// The scan value is zeros at first.
+fn calls(scan: &mut [u64]) {
+    zeros(scan);
+    plain(scan);
+    empty_pieces(scan);
+    short_lists(scan);
+    finished(scan);
+    refused_rules(scan);
+    nine_held(scan);
 }
 
 fn main() {
@@ -506,13 +520,8 @@ fn main() {
     let n = io::read_full(0, &mut room);
     show_lines(&room[0..n]);
     folds();
-    plain();
-    empty_pieces();
-    short_lists();
-    finished();
-    zeros();
+    let mut scan = [0u64; 273];
+    calls(&mut scan);
     other_lengths();
-    refused_rules();
-    nine_held();
     limit();
 }

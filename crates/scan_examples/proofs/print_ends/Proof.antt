@@ -6,13 +6,16 @@ use Rattle.scan_examples.proofs.print_ends.Statement.{statement}
 use Rattle.scan_examples.proofs.print_ends.Tie as tie
 
 abbrev Inv-loop : tie.InvT-loop
-Inv-loop ends i₀ i = Unit
+Inv-loop ends i₀ t3 i = Unit
 
 abbrev μ-loop : tie.MeasureT-loop
-μ-loop ends i₀ i = length ends - i
+μ-loop ends i₀ t3 i = length ends - i
 
 loop-holds : tie.Need-loop-holds Inv-loop μ-loop
 loop-holds c = search needs
+
+slice-aggregate-number : tie.Need-slice-aggregate-number Inv-loop μ-loop
+slice-aggregate-number c = search needs
 
 mul-number : tie.Need-mul-number Inv-loop μ-loop
 mul-number c = search needs
@@ -42,6 +45,7 @@ print-ends-spec =
     Inv-loop
     μ-loop
     loop-holds
+    slice-aggregate-number
     mul-number
     shared-slice-read-number
     number-requires
