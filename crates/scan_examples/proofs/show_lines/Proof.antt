@@ -1,0 +1,59 @@
+-- `scan_examples::show_lines` is safe, and keeps what its contract promises. Assumes nothing.
+use Prim.Native.Nat.{_-_}
+use lib.ListN.{length}
+use borrow.Author.Needs.{needs}
+use Rattle.scan_examples.proofs.show_lines.Statement.{statement}
+use Rattle.scan_examples.proofs.show_lines.Tie as tie
+
+abbrev Inv-loop : tie.InvT-loop
+Inv-loop s i₀ i = Unit
+
+abbrev μ-loop : tie.MeasureT-loop
+μ-loop s i₀ i = length s - i
+
+loop-holds : tie.Need-loop-holds Inv-loop μ-loop
+loop-holds c = search needs
+
+place-of-requires : tie.Need-place-of-requires Inv-loop μ-loop
+place-of-requires c κs = search needs
+
+sub-show-line : tie.Need-sub-show-line Inv-loop μ-loop
+sub-show-line c = search needs
+
+part-show-line-start : tie.Need-part-show-line-start Inv-loop μ-loop
+part-show-line-start c = search needs
+
+part-show-line-end : tie.Need-part-show-line-end Inv-loop μ-loop
+part-show-line-end c = search needs
+
+show-line-requires : tie.Need-show-line-requires Inv-loop μ-loop
+show-line-requires c κs = search needs
+
+add-i : tie.Need-add-i Inv-loop μ-loop
+add-i c = search needs
+
+loop-less : tie.Need-loop-less Inv-loop μ-loop
+loop-less c = search needs
+
+loop-again : tie.Need-loop-again Inv-loop μ-loop
+loop-again c = search needs
+
+returns : tie.Need-returns Inv-loop μ-loop
+returns c = search needs
+
+pub show-lines-spec : {M : Type 1} → statement M
+show-lines-spec =
+    tie.close
+    (tie.spec
+    Inv-loop
+    μ-loop
+    loop-holds
+    place-of-requires
+    sub-show-line
+    part-show-line-start
+    part-show-line-end
+    show-line-requires
+    add-i
+    loop-less
+    loop-again
+    returns)
