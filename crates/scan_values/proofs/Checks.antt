@@ -110,43 +110,36 @@ module _ (s : List ℕ) where
   length-wrong z = impossible (simp (ne-eqb _ _ z))
 
   module _ (a : length s ≡ scanLength) where
-
     pub no-position : positionsIn s < 1 → PossibleIs s false
     unfolding possible
     no-position z = impossible (simp (eq-eqb _ _ a, lt-leb _ _ z))
 
     module _ (b : 1 ≤ positionsIn s) where
-
       pub positions-over : positionLimit < positionsIn s → PossibleIs s false
       unfolding possible
       positions-over z = impossible (simp (eq-eqb _ _ a, le-leb _ _ b, lt-leb _ _ z))
 
       module _ (d : positionsIn s ≤ positionLimit) where
-
         pub finished-over : 1 < finishedIn s → PossibleIs s false
         unfolding possible
         finished-over z = impossible (simp (eq-eqb _ _ a, le-leb _ _ b, le-leb _ _ d, lt-leb _ _ z))
 
         module _ (e : finishedIn s ≤ 1) where
-
           pub raw-over : textLimit < rawIn s → PossibleIs s false
           unfolding possible
           raw-over z = impossible (simp (eq-eqb _ _ a, le-leb _ _ b, le-leb _ _ d, le-leb _ _ e, lt-leb _ _ z))
 
           module _ (f : rawIn s ≤ textLimit) where
-
             pub decoded-over : textLimit < decodedIn s → PossibleIs s false
             unfolding possible
             decoded-over z = impossible (simp (eq-eqb _ _ a, le-leb _ _ b, le-leb _ _ d, le-leb _ _ e, le-leb _ _ f, lt-leb _ _ z))
 
             module _ (g : decodedIn s ≤ textLimit) where
-
               pub held-over : heldMost formLimit < heldCountIn s → PossibleIs s false
               unfolding possible
               held-over z = impossible (simp (eq-eqb _ _ a, le-leb _ _ b, le-leb _ _ d, le-leb _ _ e, le-leb _ _ f, le-leb _ _ g, lt-leb _ _ z))
 
               module _ (h : heldCountIn s ≤ heldMost formLimit) where
-
                 pub counts-over : rawIn s < decodedIn s + heldCountIn s → PossibleIs s false
                 unfolding possible
                 counts-over z = impossible (simp (eq-eqb _ _ a, le-leb _ _ b, le-leb _ _ d, le-leb _ _ e, le-leb _ _ f, le-leb _ _ g, le-leb _ _ h, lt-leb _ _ z))

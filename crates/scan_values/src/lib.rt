@@ -13,19 +13,29 @@ use stepping::Masks;
 
 // The rule's part: the table from 0 on, and these.
 pub const REPEATS: usize = 256;
+
 pub const OPTIONAL: usize = 257;
+
 pub const POSITIONS: usize = 258;
+
 pub const STATE: usize = 259;
 // The plan's part.
 pub const FINISHED: usize = 260;
+
 pub const RAW: usize = 261;
+
 pub const DECODED: usize = 262;
+
 pub const HELD: usize = 263;
+
 pub const HELD_BYTES: usize = 264;
+
 pub const LENGTH: usize = 273;
 
 const HELD_MOST: usize = 9;
+
 const POSITION_LIMIT: u64 = 63;
+
 const TEXT_LIMIT: u64 = 0xffff_ffff;
 
 // A scan value's masks.
