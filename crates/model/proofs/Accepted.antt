@@ -174,7 +174,7 @@ pub record RuleOk (most : ℕ) (ps : List Position) : Type 0 where
   pub few : length ps ≤ most
   pub not-empty : 1 ≤ shortest ps
 
-shortest-length : (ps : List Position) → shortest ps ≤ length ps
+pub shortest-length : (ps : List Position) → shortest ps ≤ length ps
 shortest-length [] = omega arith
 shortest-length (p ∷ ps) = go (not (p .optional)) (shortest-length ps)
   where

@@ -1,0 +1,134 @@
+-- The parts of a search, and the whole. On plain values. Assumes nothing.
+use mathlib.Core.Path.{_≡_, refl, sym, ap, ap₂, subst, _∙_}
+use mathlib.Core.Bool.{Bool, true, false, cond}
+use mathlib.Core.List.{List, [], _∷_, reverse}
+use Prim.Native.Nat.{ℕ, zero, suc, _+_, _≤_, _<_, _^_}
+use native.Mathlib.Omega.{arith}
+use mir.Syntax.{w8}
+use mir.Val.{Fits}
+use lib.Dec.{T, eqb, lt→ltb}
+use lib.ListN.{length, getD}
+use borrow.Author.Tests.{eq-eqb, ne-eqb, lt-ltb, le-ltb}
+use Rattle.model.specs.Occurrence.{Position, all, shortest, starts}
+use Rattle.model.specs.RuleText.{foldFlag, isByte, positions}
+use Rattle.model.specs.NumberedAnswers.{textLimit, Parsed, refused, accepted, parse, positionsBy, rulePositions, wholeRefusal, overwrite}
+use Rattle.model.specs.WindowSearch.{windows}
+use Rattle.model.proofs.Truth.{and-intro}
+use Rattle.model.proofs.Accepted.{rule-ok, shortest-length}
+use Rattle.words.specs.Masks.{Encodes}
+use Rattle.references.specs.declared.Answer.{Answer}
+use Rattle.rules.specs.declared.Prepared.{Prepared}
+use Rattle.rules.specs.Preparing.{answerOf, preparedBy, prepared, Prepares}
+use Rattle.rules.specs.Tables.{Fillable, Filled}
+use Rattle.rules.proofs.Encoded.{is-accepted, is-answer, may-fill, positions-are, shortest-is, encodes-forwards, encodes-reversed}
+use Rattle.windows.specs.Reading.{Tables}
+use Rattle.searches.specs.declared.Rule.{Rule}
+use Rattle.searches.specs.declared.Found.{Found}
+use Rattle.searches.specs.Searching.{RuleFits, RuleOf, SearchFits, SearchedIs}
+use Rattle.finder.specs.Searching.{answering, searchAnswer, searchList, SearchIs, WholeIs, PreparedIs, Ready, WorkIs}
+
+-- what the elements of a slice of bytes are
+pub bytes-known : (xs : List ℕ) → ((i : ℕ) → Fits w8 (getD xs i 0)) → T (all isByte xs)
+bytes-known [] k = tt
+bytes-known (x ∷ xs) k = and-intro (isByte x) (all isByte xs) (lt→ltb x 256 (k 0 .fits)) (bytes-known xs (λ i. k (suc i)))
+
+-- ---- `whole`
+
+module _ (text lent : ℕ) where
+  pub whole-10 : textLimit < text → WholeIs text lent 10
+  whole-10 h = record { is = rw (lt-ltb _ _ h); small = λ z. absurd (omega arith); room = λ z. absurd (omega arith) }
+
+  module _ (h : text ≤ textLimit) where
+    pub whole-9 : lent < text → WholeIs text lent 9
+    whole-9 l = record { is = rw (le-ltb _ _ h, lt-ltb _ _ l); small = λ z. absurd (omega arith); room = λ z. absurd (omega arith) }
+
+    pub whole-0 : text ≤ lent → WholeIs text lent 0
+    whole-0 l = record { is = rw (le-ltb _ _ h, le-ltb _ _ l); small = λ z. h; room = λ z. l }
+
+-- ---- `search_accepted`
+
+module _ (flag : ℕ) (rule : List ℕ) (p : Prepared) (text listed : ℕ) (r : Ready flag rule p text listed) where
+  pub fillable : (table : List ℕ) → length table ≡ 256 → Fillable flag rule (p .positions) table
+  fillable table l = may-fill flag rule p (r .prepares) (r .accepted) table l
+
+  pub search-fits : SearchFits text listed
+  search-fits = record { small = r .small; room = r .room }
+
+  pub few : p .positions ≤ 63
+  few = r .prepares .few
+
+  module _ (bytes : T (all isByte rule)) (forward reversed : List ℕ) (q : Rule) (x : PreparedIs p q) (f : Filled flag rule false forward) (b : Filled flag rule true reversed) where
+    abbrev ps : List Position
+    ps = rulePositions (foldFlag flag) rule
+
+    rule-of : RuleOf ps forward reversed q
+    rule-of =
+        let hp = r .prepares in
+        let z = r .accepted in
+        let a = is-accepted flag rule p hp z in
+        let ok = rule-ok (foldFlag flag) rule (a .elements) bytes (a .parses) in
+        record {
+          mirrors = record {
+            inhabited = ok .inhabited;
+            some = ok .not-empty;
+            top = x .back-top ∙ positions-are flag rule p hp z;
+            size = x .size ∙ shortest-is flag rule p hp z;
+            backward = encodes-reversed flag rule p hp z reversed b (q .reversed .repeats) (q .reversed .optional) (x .back-repeats) (x .back-optional);
+          };
+          top = x .on-top ∙ positions-are flag rule p hp z;
+          onward = subst (λ (R : ℕ). Encodes 64 ps (λ c. getD forward c 0) R (q .forward .optional)) (sym (x .on-repeats)) (subst (λ (A : ℕ). Encodes 64 ps (λ c. getD forward c 0) (p .repeats) A) (sym (x .on-optional)) (encodes-forwards flag rule p hp z forward f));
+        }
+
+    pub rule-fits : RuleFits forward reversed q
+    rule-fits =
+        let m = rule-of in
+        let s : q .shortest ≡ shortest ps = m .mirrors .size in
+        let o = m .mirrors .some in
+        let n = r .prepares .few in
+        let on = x .on-top in
+        let back = x .back-top in
+        let w = shortest-length ps in
+        record {
+          on = record { long = f .long; top = omega arith };
+          back = record { long = b .long; top = omega arith };
+          some = omega arith;
+          small = omega (arith, w, positions-are flag rule p (r .prepares) (r .accepted));
+        }
+
+    module _ (tx l₀ : List ℕ) (et : length tx ≡ text) (el : length l₀ ≡ listed) (g : Found) (l : List ℕ) (y : SearchedIs forward reversed q tx l₀ g l) where
+      pub work-done : WorkIs flag rule tx l₀ (answering 0 0 (g .count) (g .windows)) l
+      work-done = let m = y .means ps rule-of in record { answers = ap₂ (answering 0 0) (m .count) (m .windows); lists = m .list }
+
+-- ---- `search`
+
+not-accepted : (flag lent : ℕ) (text list : List ℕ) (x : Parsed) (p : Prepared) → p ≡ preparedBy (foldFlag flag) x → (p .number ≡ 0 → ⊥)
+    → (answering (p .number) (p .place) 0 0 ≡ searchAnswer flag text lent x) × (list ≡ searchList flag text list x)
+not-accepted flag lent text list (refused k q) p e z = (rw e, refl)
+not-accepted flag lent text list (accepted es) p e z = absurd (z (ap (λ (y : Prepared). y .number) e))
+
+module _ (flag : ℕ) (rule text list : List ℕ) (p : Prepared) (hp : Prepares flag rule p) where
+  pub search-refused : (p .number ≡ 0 → ⊥) → (a : Answer) → a ≡ answering (p .number) (p .place) 0 0 → SearchIs flag rule text list a list
+  unfolding prepared
+  search-refused z a e = let q = not-accepted flag (length list) text list (parse (foldFlag flag) rule) p (hp .is) z in record { answers = e ∙ q .0; lists = q .1 }
+
+  module _ (z : p .number ≡ 0) (n : ℕ) (w : WholeIs (length text) (length list) n) where
+    pub search-not-whole : (n ≡ 0 → ⊥) → (a : Answer) → a ≡ answering n 0 0 0 → SearchIs flag rule text list a list
+    search-not-whole k a e =
+        let h = is-accepted flag rule p hp z .parses in
+        let i = w .is in
+        let b = ne-eqb (wholeRefusal (length text) (length list)) 0 (λ q. k (i ∙ q)) in
+        record { answers = rw (h, b) (e ∙ ap (λ (n : ℕ). answering n 0 0 0) i); lists = rw (h, b) }
+
+    pub search-ready : n ≡ 0 → Ready flag rule p (length text) (length list)
+    search-ready k = let s = w .small k in record { prepares = hp; accepted = z; small = omega arith; room = w .room k }
+
+    pub search-done : n ≡ 0 → (a : Answer) (list′ : List ℕ) → WorkIs flag rule text list a list′ → SearchIs flag rule text list a list′
+    search-done k a list′ x =
+        let h = is-accepted flag rule p hp z in
+        let i = w .is in
+        let b = eq-eqb (wholeRefusal (length text) (length list)) 0 (sym i ∙ k) in
+        let q : rulePositions (foldFlag flag) rule ≡ positions (foldFlag flag) (h .elements) = ap (positionsBy (foldFlag flag)) (h .parses) in
+        record {
+          answers = rw (h .parses, b) (x .answers ∙ ap (λ (ps : List Position). answering 0 0 (length (starts ps text)) (length (windows ps text))) q);
+          lists = rw (h .parses, b) (x .lists ∙ ap (λ (ps : List Position). overwrite list (starts ps text)) q);
+        }

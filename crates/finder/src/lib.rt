@@ -1,0 +1,93 @@
+// The finder's calls.
+ghost use mathlib.Core.Path.{_≡_};
+ghost use Prim.Native.Nat.{_<_, _≤_, _^_};
+ghost use lib.ListN.{length};
+ghost use Rattle.model.specs.NumberedAnswers.{wholeRefusal};
+ghost use Rattle.finder.specs.Searching.{answering, WholeIs, Ready, PreparedIs, WorkIs, SearchIs};
+use references::Answer;
+use rules::Prepared;
+use searches::Rule;
+use windows::Masks;
+
+// The number of the refusal of a call on a whole text with a list of so many entries, or 0.
+fn whole(text: usize, list: usize) -> u32
+    ensures { λ r. ⌜ WholeIs text list r ⌝ }
+{
+    if text > 0xffff_ffff {
+        return 10;
+    }
+    if list < text {
+        return 9;
+    }
+    0
+}
+
+// A prepared rule's masks in both directions.
+fn rule_of(p: Prepared) -> Rule
+    requires { ⌜ p .positions ≤ 63 ⌝ }
+    ensures { λ r. ⌜ PreparedIs p r ⌝ }
+{
+    let n = p.positions as u64;
+    let size = p.shortest as usize;
+    let repeats = rules::tables::mirrored(p.repeats, p.positions);
+    let optional = rules::tables::mirrored(p.optional, p.positions);
+    let forward = Masks {
+        repeats: p.repeats,
+        optional: p.optional,
+        top: n,
+    };
+    let reversed = Masks {
+        repeats: repeats,
+        optional: optional,
+        top: n,
+    };
+    Rule {
+        shortest: size,
+        forward: forward,
+        reversed: reversed,
+    }
+}
+
+// An answer with a number and a place, or with counts.
+fn answer(number: u32, place: u32, count: u32, windows: u32) -> Answer
+    ensures { λ r. ⌜ r ≡ answering number place count windows ⌝ }
+{
+    Answer {
+        number: number,
+        place: place,
+        count: count,
+        windows: windows,
+    }
+}
+
+// The work of an accepted search.
+fn search_accepted(rule: &[u8], fold: u32, p: Prepared, text: &[u8], starts: &mut [u32]) -> Answer
+    requires { ⌜ Ready fold (now rule) p (length (now text)) (length (now starts)) ⌝ }
+    ensures { λ r. ⌜ WorkIs fold (now (rule .entry)) (now (text .entry)) (now (starts .entry)) r (now (starts .exit)) ⌝ }
+{
+    let total = p.positions;
+    let prepared = rule_of(p);
+    let mut forward = [0u64; 256];
+    rules::tables::fill(rule, fold, total, &mut forward, false);
+    let mut reversed = [0u64; 256];
+    rules::tables::fill(rule, fold, total, &mut reversed, true);
+    let f = searches::search_tables(&forward, &reversed, prepared, text, starts);
+    let count = f.count as u32;
+    let windows = f.windows as u32;
+    answer(0, 0, count, windows)
+}
+
+// Searches a whole decoded text: the starts of occurrences, and how many windows were tried.
+pub fn search(rule: &[u8], fold: u32, text: &[u8], starts: &mut [u32]) -> Answer
+    ensures { λ r. ⌜ SearchIs fold (now (rule .entry)) (now (text .entry)) (now (starts .entry)) r (now (starts .exit)) ⌝ }
+{
+    let p = rules::prepare(rule, fold);
+    if p.number != 0 {
+        return answer(p.number, p.place, 0, 0);
+    }
+    let number = whole(text.len(), starts.len());
+    if number != 0 {
+        return answer(number, 0, 0, 0);
+    }
+    search_accepted(rule, fold, p, text, starts)
+}

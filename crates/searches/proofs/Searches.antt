@@ -1,0 +1,233 @@
+-- The loops over the windows, over the tables of a list of positions: what is left to do from the present window on leads to the whole. And the end of a
+-- search, where the rest of the starts comes from a backward pass. Assumes nothing.
+use mathlib.Core.Path.{_≡_, refl, sym, ap, subst, _∙_}
+use mathlib.Core.Bool.{Bool, true, false}
+use mathlib.Core.List.{List, [], _∷_, _++_, append-nil, reverse}
+use Prim.Native.Nat.{ℕ, zero, suc, _+_, _-_, _*_, _^_, _≤_, _<_}
+use native.Mathlib.Nat.{add-zero, zero-add}
+use native.Mathlib.Numerals.{add-one}
+use native.Mathlib.Omega.{arith}
+use lib.Dec.{T}
+use lib.ListN.{length, drop, getD, set, length-set}
+use lib.Seq.{sets, sets-eq, length-slice}
+use Rattle.model.specs.Occurrence.{Position, OccursAt, StartsAt, shortest, consIf, allFrom, isStart, starts}
+use Rattle.model.specs.WindowSearch.{Inhabited, isBeginning, windowAt, shift, windowsFrom, windows}
+use Rattle.model.proofs.Truth.{T-true, T-false}
+use Rattle.model.proofs.Decided.{start-decided}
+use Rattle.model.proofs.Windows.{occurs-length, shift-is, no-start-passed, starts-are-verified, windows-next, windows-stop}
+use Rattle.words.specs.Masks.{Encodes}
+use Rattle.windows.specs.declared.Masks.{Masks}
+use Rattle.windows.specs.declared.Seen.{Seen}
+use Rattle.windows.specs.declared.End.{End}
+use Rattle.windows.specs.declared.End.the-variants.{At, Dead, Open}
+use Rattle.windows.specs.Reading.{lastIf, Tables, Window, Within, SeenIs, EndIs, startsBack, CountIs, WroteIs, RestFine, WrittenIs}
+use Rattle.windows.proofs.Shifts.{seen-means, unknown-means}
+use Rattle.windows.proofs.Ends.{Means, opened-means}
+use Rattle.windows.proofs.Reversed.{all-last, back-means}
+use Rattle.searches.specs.declared.Rule.{Rule}
+use Rattle.searches.specs.declared.Part.{Part}
+use Rattle.searches.specs.declared.Tried.{Tried}
+use Rattle.searches.specs.declared.Tried.the-variants.{Start, Empty, Spent}
+use Rattle.searches.specs.Searching.{RuleFits, Mirrors, RuleOf, Spends, Allowed, CheckFits, CheckMeans, CheckedIs, TryFits, TryMeans, TriedIs, TriesIs, restStarts, Rest, PartIs, SearchFits, Searched, SearchedIs}
+use Rattle.searches.proofs.Rests.{rest-all, rest-back, rest-move}
+use Rattle.searches.proofs.Tries.{seen-shift, missed, unknown-shift, unknown-missed}
+
+-- ---- the sequence of windows
+
+module _ (ps : List Position) (reversed : List ℕ) (rule : Rule) (text : List ℕ) (of : Mirrors ps reversed rule) (w : ℕ) where
+  -- one window more, j being its shift
+  next-window : {j : ℕ} → w + rule .shortest ≤ length text → j ≡ shift ps (windowAt ps text w)
+      → length (windowsFrom (suc (length text)) ps text w) ≡ suc (length (windowsFrom (suc (length text)) ps text (w + j)))
+  next-window h q = ap length (windows-next ps (of .inhabited) (of .some) text w (omega (arith, of .size))) ∙ rw q
+
+  no-window : length text < w + rule .shortest → length (windowsFrom (suc (length text)) ps text w) ≡ 0
+  no-window h = ap length (windows-stop ps (of .inhabited) (of .some) text w (omega (arith, of .size)))
+
+pub record Trying (reversed : List ℕ) (rule : Rule) (text : List ℕ) (w₀ w k : ℕ) : Type 0 where
+  pub within : w ≤ length text
+  pub few : k + w₀ ≤ w
+  pub rest : (ps : List Position) → Mirrors ps reversed rule
+      → k + length (windowsFrom (suc (length text)) ps text w) ≡ length (windowsFrom (suc (length text)) ps text w₀)
+
+module _ (reversed : List ℕ) (rule : Rule) (text : List ℕ) (w₀ : ℕ) where
+  pub try-begun : w₀ ≤ length text → Trying reversed rule text w₀ w₀ 0
+  try-begun h = record { within = h; few = omega arith; rest = λ ps of. omega arith }
+
+  module _ {w k : ℕ} (g : Trying reversed rule text w₀ w k) where
+    pub try-turn : (s : Seen) → w + rule .shortest ≤ length text
+        → SeenIs reversed (rule .reversed) (rule .shortest) text w s
+        → Trying reversed rule text w₀ (w + s .shift) (k + 1)
+    try-turn s h i = record {
+      within = omega (arith, i .short);
+      few = omega (arith, i .moves, g .few);
+      rest = λ ps of.
+          let n = next-window ps reversed rule text of w h (seen-shift ps reversed rule text w of h s i) in
+          omega (arith, g .rest ps of);
+    }
+
+    -- the short way: the last byte stands at no position
+    pub try-quick : {b : ℕ} → w + rule .shortest ≤ length text → 1 ≤ rule .shortest → b ≡ getD text (w + rule .shortest - 1) 0 → getD reversed b 0 ≡ 0
+        → Trying reversed rule text w₀ (w + rule .shortest) (k + 1)
+    try-quick h m eb z = record {
+      within = h;
+      few = omega (arith, g .few);
+      rest = λ ps of.
+          let n = next-window ps reversed rule text of w h (unknown-shift ps reversed rule text w of h eb z) in
+          omega (arith, g .rest ps of);
+    }
+
+    pub try-over : length text < w + rule .shortest → TriesIs reversed rule text w₀ k
+    try-over h = record {
+      few = omega (arith, g .few, g .within);
+      means = λ ps of. let n = no-window ps reversed rule text of w h in omega (arith, g .rest ps of);
+    }
+
+-- ---- the windows with their verification
+
+pub record Going (forward reversed : List ℕ) (rule : Rule) (text l₀ l : List ℕ) (w count tried spent : ℕ) : Type 0 where
+  pub within : w ≤ length text
+  pub few : count ≤ w
+  pub tries : tried ≤ w
+  pub budget : spent ≤ 2 * w + 4096
+  pub long : length l ≡ length l₀
+  pub rest : (ps : List Position) → RuleOf ps forward reversed rule → Rest ps text l₀ w count tried l
+
+-- what an answer says of the shift
+module _ {forward reversed : List ℕ} {rule : Rule} {text : List ℕ} {w : ℕ} {x : Tried} (i : TriedIs forward reversed rule text w x) where
+  start-bounds : {j s : ℕ} → x ≡ Start j s → (1 ≤ j) × (j ≤ rule .shortest) × (s ≤ 2 * w + 4096)
+  start-bounds q = subst (TryFits (rule .shortest) w) q (i .fits)
+
+  empty-bounds : {j s : ℕ} → x ≡ Empty j s → (1 ≤ j) × (j ≤ rule .shortest) × (s ≤ 2 * w + 4096)
+  empty-bounds q = subst (TryFits (rule .shortest) w) q (i .fits)
+
+  pub start-short : {j s : ℕ} → x ≡ Start j s → j ≤ rule .shortest
+  start-short q = start-bounds q .1
+
+  pub empty-short : {j s : ℕ} → x ≡ Empty j s → j ≤ rule .shortest
+  empty-short q = empty-bounds q .1
+
+  pub start-less : {j s : ℕ} → x ≡ Start j s → 1 ≤ rule .shortest → w + rule .shortest ≤ length text → length text - (w + j) < length text - w
+  start-less q m h = let b = start-bounds q .0 in omega arith
+
+  pub empty-less : {j s : ℕ} → x ≡ Empty j s → 1 ≤ rule .shortest → w + rule .shortest ≤ length text → length text - (w + j) < length text - w
+  empty-less q m h = let b = empty-bounds q .0 in omega arith
+
+module _ (forward reversed : List ℕ) (rule : Rule) (text l₀ : List ℕ) where
+  pub begun : Going forward reversed rule text l₀ l₀ 0 0 0 0
+  begun = record {
+    within = omega arith;
+    few = omega arith;
+    tries = omega arith;
+    budget = omega arith;
+    long = refl;
+    rest = λ ps of. record { starts-left = rw (rest-all ps text) (zero-add _); windows-left = zero-add _; list = rw (rest-all ps text) };
+  }
+
+  module _ {l : List ℕ} {w count tried spent : ℕ} (g : Going forward reversed rule text l₀ l w count tried spent) where
+    -- the starts from w on, by those from the next window on
+    move : (ps : List Position) (of : RuleOf ps forward reversed rule) → w + rule .shortest ≤ length text → (j : ℕ) → j ≡ shift ps (windowAt ps text w) → (b : Bool) → isStart ps text w ≡ b
+        → restStarts ps text w ≡ consIf b w (restStarts ps text (w + j))
+    move ps of h j q b e =
+        let m = of .mirrors in
+        rest-move ps (m .inhabited) (m .some) text w (omega (arith, m .size)) ∙ rw (q, e)
+
+    module _ {x : Tried} (h : w + rule .shortest ≤ length text) (i : TriedIs forward reversed rule text w x) where
+      -- an occurrence starts at w
+      pub started : {j s : ℕ} → x ≡ Start j s → Going forward reversed rule text l₀ (set l count w) (w + j) (count + 1) (tried + 1) s
+      started {j} {s} q =
+          let b = start-bounds i q in
+          let b0 = b .0 in
+          let b1 = b .1 in
+          let b2 = b .2 in
+          record {
+            within = omega arith;
+            few = omega (arith, g .few);
+            tries = omega (arith, g .tries);
+            budget = omega arith;
+            long = length-set l count w ∙ g .long;
+            rest = λ ps of.
+                let k = subst (TryMeans ps text w) q (i .means ps of) in
+                let v = move ps of h j (k .0) true (k .1) in
+                let n = next-window ps reversed rule text (of .mirrors) w h (k .0) in
+                let r = g .rest ps of in
+                record {
+                  starts-left = omega (arith, ap length v, r .starts-left);
+                  windows-left = omega (arith, r .windows-left);
+                  list = rw add-one (sym (ap (sets l count) v) ∙ r .list);
+                };
+          }
+
+      -- none does
+      pub passed : {j s : ℕ} → x ≡ Empty j s → Going forward reversed rule text l₀ l (w + j) count (tried + 1) s
+      passed {j} {s} q =
+          let b = empty-bounds i q in
+          let b0 = b .0 in
+          let b1 = b .1 in
+          let b2 = b .2 in
+          record {
+            within = omega arith;
+            few = omega (arith, g .few);
+            tries = omega (arith, g .tries);
+            budget = omega arith;
+            long = g .long;
+            rest = λ ps of.
+                let k = subst (TryMeans ps text w) q (i .means ps of) in
+                let v = move ps of h j (k .0) false (k .1) in
+                let n = next-window ps reversed rule text (of .mirrors) w h (k .0) in
+                let r = g .rest ps of in
+                record {
+                  starts-left = omega (arith, ap length v, r .starts-left);
+                  windows-left = omega (arith, r .windows-left);
+                  list = sym (ap (sets l count) v) ∙ r .list;
+                };
+          }
+
+    -- the short way
+    pub skipped : {b : ℕ} → w + rule .shortest ≤ length text → 1 ≤ rule .shortest → b ≡ getD text (w + rule .shortest - 1) 0 → getD reversed b 0 ≡ 0
+        → Going forward reversed rule text l₀ l (w + rule .shortest) count (tried + 1) spent
+    skipped h m eb z = record {
+      within = h;
+      few = omega (arith, g .few);
+      tries = omega (arith, g .tries);
+      budget = omega (arith, g .budget);
+      long = g .long;
+      rest = λ ps of.
+          let j = unknown-shift ps reversed rule text w (of .mirrors) h eb z in
+          let v = move ps of h (rule .shortest) j false (unknown-missed ps reversed rule text w (of .mirrors) h eb z) in
+          let n = next-window ps reversed rule text (of .mirrors) w h j in
+          let r = g .rest ps of in
+          record {
+            starts-left = omega (arith, ap length v, r .starts-left);
+            windows-left = omega (arith, r .windows-left);
+            list = sym (ap (sets l count) v) ∙ r .list;
+          };
+    }
+
+    pub halted : PartIs forward reversed rule text l₀ (record { next = w; count = count; windows = tried }) l
+    halted = record { within = g .within; few = g .few; tries = g .tries; long = g .long; rest = g .rest }
+
+-- ---- the end of a search
+
+module _ (forward reversed : List ℕ) (rule : Rule) (text l₀ : List ℕ) (f : SearchFits (length text) (length l₀)) (p : Part) (l : List ℕ) (i : PartIs forward reversed rule text l₀ p l) where
+  pub rest-fits : RestFine (length text) (p .next) (length l) (p .count)
+  rest-fits = record { from-within = i .within; small = f .small; ordered = i .few; room = omega (arith, f .room, i .long) }
+
+  pub finished : {k z : ℕ} {l′ : List ℕ} → WrittenIs reversed (rule .reversed) text (p .next) l (p .count) k l′ → TriesIs reversed rule text (p .next) z
+      → SearchedIs forward reversed rule text l₀ (record { count = p .count + k; windows = p .windows + z }) l′
+  finished {k} {z} {l′} o t = record {
+    few = omega (arith, i .few, o .counted .few);
+    tries = omega (arith, i .tries, t .few);
+    long = o .wrote .long ∙ i .long;
+    means = λ ps of.
+        let m = of .mirrors in
+        let r = i .rest ps of in
+        let b : startsBack reversed (rule .reversed) text (p .next) ≡ restStarts ps text (p .next) =
+        back-means ps reversed (rule .reversed) text (m .backward) (m .top) (p .next) (i .within)
+        ∙ rest-back ps (m .inhabited) (m .some) text (p .next) (i .within) in
+        let n : p .count + k ≡ length (starts ps text) = omega (arith, o .counted .is, ap length b, r .starts-left) in
+        record {
+          count = n;
+          windows = omega (arith, t .means ps m, r .windows-left);
+          list = o .wrote .list ∙ ap (sets l (p .count)) b ∙ r .list ∙ sets-eq (starts ps text) l₀ 0 (omega (arith, i .few, o .counted .few, f .room)) ∙ rw zero-add;
+        };
+  }

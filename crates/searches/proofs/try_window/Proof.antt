@@ -1,0 +1,27 @@
+use Rattle.searches.proofs.Tries.{hit, missed}
+use borrow.Author.Needs.{needs}
+use Rattle.searches.proofs.try_window.Statement.{statement}
+use Rattle.searches.proofs.try_window.Tie as tie
+use Rattle.searches.proofs.try_window.Reads as reads
+use Rattle.searches.proofs.try_window.Lts as lts
+use Rattle.searches.proofs.checked.Reads as checked-reads
+use Rattle.windows.proofs.window_shift.Reads as window-shift-reads
+
+-- src/lib.rt:101:9
+window-shift-requires : tie.Need-window-shift-requires
+window-shift-requires c κs = search needs
+
+-- src/lib.rt:104:9
+checked-requires : tie.Need-checked-requires
+checked-requires c κs = search needs
+
+-- src/lib.rt:104:9
+returns : tie.Need-returns
+returns c = search hit
+
+-- src/lib.rt:87:1
+returns-2 : tie.Need-returns-2
+returns-2 c = search missed
+
+pub try-window-spec : {M : Type 1} → statement M
+try-window-spec = tie.close (tie.spec window-shift-requires checked-requires returns returns-2)

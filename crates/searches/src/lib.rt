@@ -1,0 +1,214 @@
+// The window search over prepared tables. Verifying window after window takes quadratic time on some
+// texts. So it has a budget, and where that does not reach, the rest of the starts comes from two
+// readings of the text backwards. Starts, their order and the count of windows are the same either way.
+ghost use mathlib.Core.Path.{_≡_};
+ghost use Prim.Native.Nat.{_+_, _*_, _≤_, _<_, _^_};
+ghost use lib.ListN.{length};
+ghost use Rattle.windows.specs.Reading.{Tables};
+ghost use Rattle.searches.specs.Searching.{RuleFits, Spends, Allowed, CheckedIs, TriedIs, TriesIs, PartIs, SearchFits, SearchedIs};
+use windows::End;
+use windows::Masks;
+
+// A prepared rule, beside its two tables: its shortest length, and its masks in both directions.
+pub struct Rule {
+    pub shortest: usize,
+    pub forward: Masks,
+    pub reversed: Masks,
+}
+
+// What trying a window says: an occurrence starts there, or none does, with the shift and the bytes read
+// so far in verifying; or the budget for verifying does not reach.
+pub enum Tried {
+    Start(usize, usize),
+    Empty(usize, usize),
+    Spent,
+}
+
+// A part of a search: the next window, and the starts written and the windows tried before it.
+pub struct Part {
+    pub next: usize,
+    pub count: usize,
+    pub windows: usize,
+}
+
+// What a search finds: the count of starts, which stand at the list's front, and the count of windows.
+pub struct Found {
+    pub count: usize,
+    pub windows: usize,
+}
+
+// How far a verification from w may read: all verifying up to window w reads at most 2 w + 4096 bytes.
+fn allowed(len: usize, w: usize, spent: usize) -> usize
+    requires { ⌜ Spends len w spent ⌝ }
+    ensures { λ r. ⌜ Allowed len w spent r ⌝ }
+{
+    let far = 3 * w + 4096 - spent;
+    if far < len {
+        return far;
+    }
+    len
+}
+
+// Verifies from w, as far as the budget goes. The shift is handed on.
+fn checked(
+    forward: &[u64],
+    m: Masks,
+    text: &[u8],
+    w: usize,
+    spent: usize,
+    shift: usize,
+) -> Tried
+    requires { ⌜ Tables (now forward) m ⌝ }
+    requires { ⌜ Spends (length (now text)) w spent ⌝ }
+    ensures { λ x. ⌜ CheckedIs (now (forward .entry)) m (now (text .entry)) w shift x ⌝ }
+{
+    let stop = allowed(text.len(), w, spent);
+    let end = windows::verify(forward, m, text, w, stop);
+    match end {
+        End::At(e) => {
+            let read = spent + (e - w);
+            return Tried::Start(shift, read);
+        }
+        End::Dead(e) => {
+            let read = spent + (e - w);
+            return Tried::Empty(shift, read);
+        }
+        End::Open => {
+            if stop < text.len() {
+                return Tried::Spent;
+            }
+            let read = spent + (stop - w);
+            return Tried::Empty(shift, read);
+        }
+    }
+}
+
+// Tries window w: reads it backwards, and verifies it if its bytes begin a string that the rule admits.
+fn try_window(
+    forward: &[u64],
+    reversed: &[u64],
+    rule: Rule,
+    text: &[u8],
+    w: usize,
+    spent: usize,
+) -> Tried
+    requires { ⌜ RuleFits (now forward) (now reversed) rule ⌝ }
+    requires { ⌜ w + rule .shortest ≤ length (now text) ⌝ }
+    requires { ⌜ Spends (length (now text)) w spent ⌝ }
+    ensures { λ x. ⌜ TriedIs (now (forward .entry)) (now (reversed .entry)) rule (now (text .entry)) w x ⌝ }
+{
+    let back = rule.reversed;
+    let seen = windows::window_shift(reversed, back, rule.shortest, text, w);
+    if seen.hit {
+        let on = rule.forward;
+        return checked(forward, on, text, w, spent, seen.shift);
+    }
+    Tried::Empty(seen.shift, spent)
+}
+
+// How many windows there are from window w on. Nothing is verified.
+fn count_windows(forward: &[u64], reversed: &[u64], rule: Rule, text: &[u8], w: usize) -> usize
+    requires { ⌜ RuleFits (now forward) (now reversed) rule ⌝ }
+    requires { ⌜ w ≤ length (now text) ⌝ }
+    requires { ⌜ length (now text) < 2 ^ 32 ⌝ }
+    ensures { λ k. ⌜ TriesIs (now (reversed .entry)) rule (now (text .entry)) w k ⌝ }
+{
+    let mut w = w;
+    let mut k = 0;
+    while w + rule.shortest <= text.len() {
+        let last = looks::index(text[w + rule.shortest - 1]);
+        if reversed[last] == 0 {
+            w += rule.shortest;
+            k += 1;
+            continue;
+        }
+        let back = rule.reversed;
+        let seen = windows::window_shift(reversed, back, rule.shortest, text, w);
+        w += seen.shift;
+        k += 1;
+    }
+    k
+}
+
+// Tries the windows one after another, and writes the starts into the list from its front, until the
+// windows or the budget are at their end.
+fn verified(
+    forward: &[u64],
+    reversed: &[u64],
+    rule: Rule,
+    text: &[u8],
+    starts: &mut [u32],
+) -> Part
+    requires { ⌜ RuleFits (now forward) (now reversed) rule ⌝ }
+    requires { ⌜ length (now text) < 2 ^ 32 ⌝ }
+    requires { ⌜ length (now text) ≤ length (now starts) ⌝ }
+    ensures { λ p. ⌜ PartIs (now (forward .entry)) (now (reversed .entry)) rule (now (text .entry)) (now (starts .entry)) p (now (starts .exit)) ⌝ }
+{
+    let mut w = 0;
+    let mut count = 0;
+    let mut tried = 0;
+    let mut spent = 0;
+    while w + rule.shortest <= text.len() {
+        // The short way, for most windows: the last byte stands at no position.
+        let last = looks::index(text[w + rule.shortest - 1]);
+        if reversed[last] == 0 {
+            tried += 1;
+            w += rule.shortest;
+            continue;
+        }
+        let found = try_window(forward, reversed, rule, text, w, spent);
+        match found {
+            Tried::Start(shift, read) => {
+                starts[count] = w as u32;
+                count += 1;
+                tried += 1;
+                spent = read;
+                w += shift;
+            }
+            Tried::Empty(shift, read) => {
+                tried += 1;
+                spent = read;
+                w += shift;
+            }
+            Tried::Spent => {
+                return Part {
+                    next: w,
+                    count: count,
+                    windows: tried,
+                };
+            }
+        }
+    }
+    Part {
+        next: w,
+        count: count,
+        windows: tried,
+    }
+}
+
+// The whole search. Where verifying came to its end before the windows did, the rest of the starts comes
+// from two readings backwards, and the rest of the windows is only counted; where it did not, what is
+// left is shorter than a window.
+pub fn search_tables(
+    forward: &[u64],
+    reversed: &[u64],
+    rule: Rule,
+    text: &[u8],
+    starts: &mut [u32],
+) -> Found
+    requires { ⌜ RuleFits (now forward) (now reversed) rule ⌝ }
+    requires { ⌜ SearchFits (length (now text)) (length (now starts)) ⌝ }
+    ensures { λ r. ⌜ SearchedIs (now (forward .entry)) (now (reversed .entry)) rule (now (text .entry)) (now (starts .entry)) r (now (starts .exit)) ⌝ }
+{
+    let p = verified(forward, reversed, rule, text, starts);
+    let back = rule.reversed;
+    let next = p.next;
+    let k = windows::write_rest(reversed, back, text, next, starts, p.count);
+    let z = count_windows(forward, reversed, rule, text, next);
+    let count = p.count + k;
+    let tried = p.windows + z;
+    Found {
+        count: count,
+        windows: tried,
+    }
+}

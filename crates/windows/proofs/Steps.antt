@@ -1,0 +1,77 @@
+-- What the readings say where table and masks are those of a list of positions: the step is the bridge's, and no state stays none. Assumes nothing.
+use mathlib.Core.Path.{_≡_, refl, sym, ap, ap₂, subst, _∙_}
+use mathlib.Core.Bool.{Bool, true, false, cond, _&&_, _||_}
+use mathlib.Core.Logic.{_⊎_, inl, inr, _↔_}
+use mathlib.Core.List.{List, [], _∷_, _++_, reverse, reverse-cons, reverse-append, reverse-reverse, append-assoc, append-nil}
+use Prim.Native.Nat.{ℕ, zero, suc, _+_, _-_, _≤_, _<_}
+use native.Mathlib.Nat.{add-zero, zero-add, suc-add}
+use native.Mathlib.Numerals.{add-one}
+use native.Mathlib.Decide.{decLe}
+use native.Mathlib.Omega.{arith}
+use lib.Dec.{T, eqb}
+use lib.ListN.{length, take, drop, getD, length-append, length-reverse, drop-of-length-le, length-take, length-drop, take-append-drop}
+use lib.Seq.{drop-cons, getD-take, getD-drop, take-suc, drop-append-le, length-take-le, slice-empty, drop-length, take-nil, take-append-seam, length-slice}
+use borrow.Author.Tests.{eqb-true, eqb-false}
+use Rattle.model.specs.Occurrence.{Position, Occurs, stretch, OccursAt, StartsAt, shortest, oneIf, consIf, allFrom, isOccurrence, isStart, starts}
+use Rattle.model.specs.WindowSearch.{Inhabited, isBeginning, leastFrom, windowAt, shift}
+use Rattle.model.proofs.Truth.{T-true, T-false}
+use Rattle.model.proofs.Law.{nth, stepBit, Steps}
+use Rattle.model.proofs.Searches as Searches
+use Rattle.model.proofs.Decided.{occurrence-decided, start-decided}
+use Rattle.words.specs.Bit.{bit}
+use Rattle.words.specs.ForwardStep.{onByte, opening, topBit}
+use Rattle.words.specs.Masks.{Encodes, admitsMask}
+use Rattle.words.proofs.Digits.{none-bit}
+use Rattle.words.proofs.MaskLaws.{mask-bit}
+use Rattle.words.proofs.Bridge as Bridge
+use Rattle.words.proofs.Bridge.{Scanned, Anchored, Backward, anchored-top, backward-top}
+use Rattle.windows.specs.declared.Masks.{Masks}
+use Rattle.windows.specs.declared.Seen.{Seen}
+use Rattle.windows.specs.declared.End.{End}
+use Rattle.windows.specs.declared.End.the-variants.{At, Dead, Open}
+use Rattle.windows.specs.Reading.{stepN, every, lastIf, stepAt, seenN, endedN, backN, startsBack}
+
+pub step-is : (t : List ℕ) (m : Masks) (k : Bool) (d c : ℕ) → stepN m (oneIf k) d (getD t c 0) ≡ onByte 64 (λ c. getD t c 0) (m .repeats) (m .optional) k d c
+unfolding stepN
+step-is t m k d c = refl
+
+none-bits : (a b r o : Bool) → ((a && false) || (b && r && false) || (o && false)) ≡ false
+none-bits true true true true = refl
+none-bits true true true false = refl
+none-bits true true false true = refl
+none-bits true true false false = refl
+none-bits true false true true = refl
+none-bits true false true false = refl
+none-bits true false false true = refl
+none-bits true false false false = refl
+none-bits false true true true = refl
+none-bits false true true false = refl
+none-bits false true false true = refl
+none-bits false true false false = refl
+none-bits false false true true = refl
+none-bits false false true false = refl
+none-bits false false false true = refl
+none-bits false false false false = refl
+
+-- no state before
+none-of : (p : Position) (c : ℕ) → stepBit p c false false false ≡ false
+none-of p c = go (p .optional)
+  where
+    go : (o : Bool) → (false || (o && false)) ≡ false
+    go true = refl
+    go false = refl
+
+pub none-steps : (ps : List Position) (c : ℕ) → Steps false ps c (bit 0) (bit 0)
+none-steps ps c = record { first = none-bit 0; later = λ i h. none-bit (suc i) ∙ sym (rw (none-bit i, none-bit (suc i)) (none-of (nth ps i) c)) }
+
+none-in : (p : Position) (c : ℕ) (a b : Bool) → p .set c ≡ false → stepBit p c a b false ≡ false
+none-in p c a b e = subst (λ (x : Bool). ((a && x) || (b && p .repeats && x) || (p .optional && false)) ≡ false) (sym e) (none-bits a b (p .repeats) (p .optional))
+
+-- a byte that stands at no position leaves no state
+pub unknown-steps : (ps : List Position) (c : ℕ) → admitsMask ps c ≡ 0 → (old : ℕ → Bool) → Steps false ps c old (bit 0)
+unknown-steps ps c z old = record {
+  first = none-bit 0;
+  later = λ i h.
+      let q : nth ps i .set c ≡ false = sym (mask-bit (λ p. p .set c) ps i h) ∙ ap (λ (x : ℕ). bit x (suc i)) z ∙ none-bit (suc i) in
+      none-bit (suc i) ∙ sym (rw (none-bit i) (none-in (nth ps i) c (old i) (old (suc i)) q));
+}

@@ -1,0 +1,98 @@
+use Rattle.windows.proofs.BackLaws.{Counting, count-begun, counted, count-passed, count-over}
+use borrow.Author.Needs.{needs}
+use Rattle.windows.proofs.count_back.Statement.{statement}
+use Rattle.windows.proofs.count_back.Tie as tie
+use Rattle.windows.proofs.count_back.Reads as reads
+use Rattle.windows.proofs.count_back.Lts as lts
+use Rattle.looks.proofs.index.Reads as index-reads
+use Rattle.windows.proofs.step.Reads as step-reads
+use Rattle.words.proofs.opening.Reads as opening-reads
+use Rattle.words.proofs.reports.Reads as reports-reads
+
+abbrev Inv-loop : tie.InvT-loop
+Inv-loop reversed m text from d₀ k₀ j₀ d k j = Counting reversed m text from d k j
+
+abbrev μ-loop : tie.MeasureT-loop
+μ-loop reversed m text from d₀ k₀ j₀ d k j = j
+
+-- src/lib.rt:103:9
+opening-requires : tie.Need-opening-requires Inv-loop μ-loop
+opening-requires c κs = search needs
+
+-- src/lib.rt:106:5
+loop-holds : tie.Need-loop-holds Inv-loop μ-loop
+loop-holds c = search count-begun
+
+-- src/lib.rt:107:9
+sub-j : tie.Need-sub-j Inv-loop μ-loop
+sub-j c = search needs
+
+-- src/lib.rt:108:30
+shared-slice-read-index : tie.Need-shared-slice-read-index Inv-loop μ-loop
+shared-slice-read-index c = search needs
+
+-- src/lib.rt:108:13
+index-requires : tie.Need-index-requires Inv-loop μ-loop
+index-requires c κs = search needs
+
+-- src/lib.rt:109:21
+mul-step : tie.Need-mul-step Inv-loop μ-loop
+mul-step c = search needs
+
+-- src/lib.rt:109:21
+shared-slice-read-step : tie.Need-shared-slice-read-step Inv-loop μ-loop
+shared-slice-read-step c = search needs
+
+-- src/lib.rt:109:9
+step-requires : tie.Need-step-requires Inv-loop μ-loop
+step-requires c κs = search needs
+
+-- src/lib.rt:110:12
+reports-requires : tie.Need-reports-requires Inv-loop μ-loop
+reports-requires c κs = search needs
+
+-- src/lib.rt:111:13
+add-k : tie.Need-add-k Inv-loop μ-loop
+add-k c = search needs
+
+-- src/lib.rt:106:5
+loop-less : tie.Need-loop-less Inv-loop μ-loop
+loop-less c = search needs
+
+-- src/lib.rt:106:5
+loop-again : tie.Need-loop-again Inv-loop μ-loop
+loop-again c = search counted
+
+-- src/lib.rt:106:5
+loop-less-2 : tie.Need-loop-less-2 Inv-loop μ-loop
+loop-less-2 c = search needs
+
+-- src/lib.rt:106:5
+loop-again-2 : tie.Need-loop-again-2 Inv-loop μ-loop
+loop-again-2 c = search count-passed
+
+-- src/lib.rt:98:1
+returns : tie.Need-returns Inv-loop μ-loop
+returns c = search count-over
+
+pub count-back-spec : {M : Type 1} → statement M
+count-back-spec =
+    tie.close
+    (tie.spec
+    Inv-loop
+    μ-loop
+    opening-requires
+    loop-holds
+    sub-j
+    shared-slice-read-index
+    index-requires
+    mul-step
+    shared-slice-read-step
+    step-requires
+    reports-requires
+    add-k
+    loop-less
+    loop-again
+    loop-less-2
+    loop-again-2
+    returns)

@@ -1,0 +1,163 @@
+// The window search's readings of a text, over prepared tables: a window backwards, a start forwards,
+// and all the text backwards. Each contract is an equation with a definition of `specs/Reading.antt`,
+// for any table and masks.
+ghost use mathlib.Core.Path.{_≡_};
+ghost use Prim.Native.Nat.{_+_, _≤_, _<_, _^_};
+ghost use lib.ListN.{length};
+ghost use Rattle.windows.specs.Reading.{Tables, Window, stepN, SeenIs, EndIs, startsBack, CountIs, WriteFine, WroteIs, RestFine, WrittenIs};
+
+// A rule in one direction: the positions that repeat, the optional ones, and the number of the top one.
+pub struct Masks {
+    pub repeats: u64,
+    pub optional: u64,
+    pub top: u64,
+}
+
+// What a window says: the published shift, and whether its bytes begin a string that the rule admits.
+pub struct Seen {
+    pub shift: usize,
+    pub hit: bool,
+}
+
+// What reading on from a start says: an occurrence ends at the place, and none before it; or no state
+// is left after the bytes before the place; or neither, after all the bytes that might be read.
+pub enum End {
+    At(usize),
+    Dead(usize),
+    Open,
+}
+
+// One step, at a byte's table entry; k is what every step sets.
+fn step(d: u64, b: u64, k: u64, m: Masks) -> u64
+    ensures { λ x. ⌜ x ≡ stepN m k d b ⌝ }
+{
+    let i = words::block_starts(m.optional);
+    let f = words::block_ends(m.optional);
+    words::advance(d, b, b & m.repeats, k, m.optional, i, f)
+}
+
+// Reads window w of `size` bytes from its last byte backwards, with the reversed table and masks, until
+// no state is left.
+pub fn window_shift(reversed: &[u64], m: Masks, size: usize, text: &[u8], w: usize) -> Seen
+    requires { ⌜ Tables (now reversed) m ⌝ }
+    requires { ⌜ Window size w (length (now text)) ⌝ }
+    ensures { λ x. ⌜ SeenIs (now (reversed .entry)) m size (now (text .entry)) w x ⌝ }
+{
+    let mut d = 0xffff_ffff_ffff_ffff;
+    let mut last = size;
+    let mut j = size - 1;
+    while 0 < j {
+        let c = looks::index(text[w + j]);
+        d = step(d, reversed[c], 0, m);
+        if d == 0 {
+            return Seen {
+                shift: last,
+                hit: false,
+            };
+        }
+        let at = j;
+        j -= 1;
+        if words::reports(d, m.top) {
+            last = at;
+        }
+    }
+    let c = looks::index(text[w]);
+    d = step(d, reversed[c], 0, m);
+    let hit = words::reports(d, m.top);
+    Seen {
+        shift: last,
+        hit: hit,
+    }
+}
+
+// Reads forward from the start s, with the forward table and masks, up to the place `stop`.
+pub fn verify(forward: &[u64], m: Masks, text: &[u8], s: usize, stop: usize) -> End
+    requires { ⌜ Tables (now forward) m ⌝ }
+    requires { ⌜ s ≤ stop ⌝ }
+    requires { ⌜ stop ≤ length (now text) ⌝ }
+    ensures { λ x. ⌜ EndIs (now (forward .entry)) m (now (text .entry)) s stop x ⌝ }
+{
+    let mut d = words::opening(m.optional);
+    let mut e = s;
+    while e < stop {
+        let c = looks::index(text[e]);
+        d = step(d, forward[c], 0, m);
+        e += 1;
+        if d == 0 {
+            return End::Dead(e);
+        }
+        if words::reports(d, m.top) {
+            return End::At(e);
+        }
+    }
+    End::Open
+}
+
+// Reads the text backwards as far as `from`, with the reversed table and masks and the beginning always
+// set: how many starts there are from there on.
+pub fn count_back(reversed: &[u64], m: Masks, text: &[u8], from: usize) -> usize
+    requires { ⌜ Tables (now reversed) m ⌝ }
+    requires { ⌜ from ≤ length (now text) ⌝ }
+    ensures { λ k. ⌜ CountIs (now (reversed .entry)) m (now (text .entry)) from k ⌝ }
+{
+    let mut d = words::opening(m.optional);
+    let mut k = 0;
+    let mut j = text.len();
+    while from < j {
+        j -= 1;
+        let c = looks::index(text[j]);
+        d = step(d, reversed[c], 1, m);
+        if words::reports(d, m.top) {
+            k += 1;
+        }
+    }
+    k
+}
+
+// The same reading, which writes those starts, k of them, into the list from the entry `first` on, the
+// last one first.
+fn write_back(
+    reversed: &[u64],
+    m: Masks,
+    text: &[u8],
+    from: usize,
+    starts: &mut [u32],
+    first: usize,
+    k: usize,
+)
+    requires { ⌜ Tables (now reversed) m ⌝ }
+    requires { ⌜ WriteFine (now reversed) m (now text) from (length (now starts)) first k ⌝ }
+    ensures { λ u. ⌜ WroteIs (now (reversed .entry)) m (now (text .entry)) from (now (starts .entry)) first (now (starts .exit)) ⌝ }
+{
+    let mut d = words::opening(m.optional);
+    let mut p = first + k;
+    let mut j = text.len();
+    while first < p {
+        j -= 1;
+        let c = looks::index(text[j]);
+        d = step(d, reversed[c], 1, m);
+        if words::reports(d, m.top) {
+            p -= 1;
+            starts[p] = j as u32;
+        }
+    }
+}
+
+// Writes the starts from `from` on into the list from the entry `first` on, and answers how many there
+// are.
+pub fn write_rest(
+    reversed: &[u64],
+    m: Masks,
+    text: &[u8],
+    from: usize,
+    starts: &mut [u32],
+    first: usize,
+) -> usize
+    requires { ⌜ Tables (now reversed) m ⌝ }
+    requires { ⌜ RestFine (length (now text)) from (length (now starts)) first ⌝ }
+    ensures { λ k. ⌜ WrittenIs (now (reversed .entry)) m (now (text .entry)) from (now (starts .entry)) first k (now (starts .exit)) ⌝ }
+{
+    let k = count_back(reversed, m, text, from);
+    write_back(reversed, m, text, from, starts, first, k);
+    k
+}
