@@ -2,18 +2,18 @@
 -- every answer is the plain scan's; and once a finish is accepted, the ends reported are exactly those of occurrences in the decoded plan, the search of that
 -- plan gives exactly their starts and the windows of the published sequence, no move passes over a start, and a plan that decodes alike gets the same. About the
 -- very definitions that the contracts of `open`, `feed`, `finish` and `search` cite. Assumes nothing.
-use mathlib.Core.Path.{_≡_, refl, sym, ap, ap₂, subst, _∙_}
+use mathlib.Core.Path.{_≡_, refl, sym, ap, subst, _∙_}
 use mathlib.Core.Bool.{Bool, true, false, cond}
 use mathlib.Core.Logic.{_↔_}
-use mathlib.Core.List.{List, [], _∷_, _++_}
+use mathlib.Core.List.{List}
 use Prim.Native.Nat.{ℕ, _+_, _≤_, _<_}
-use lib.Dec.{T, eqb}
+use lib.Dec.{eqb}
 use native.Mathlib.Omega.{arith}
 use borrow.Author.Tests.{eqb-false}
 use lib.ListN.{length}
-use mathlib.Core.List.{List, [], _∷_, _++_, append-assoc, nil≢cons, cons≢nil, List·Memᴰ, List·Memᴰ·head, List·Memᴰ·tail, List·Memᴰ·cases-cons, List·Memᴰ·not-nil}
-use Rattle.model.specs.Occurrence.{Position, all, StartsAt, EndsAt, shortest, ends, starts}
-use Rattle.model.specs.RuleText.{foldFlag, isByte, Element, positions, positionLimit, ruleLimit}
+use mathlib.Core.List.{List, List·Memᴰ}
+use Rattle.model.specs.Occurrence.{Position, StartsAt, EndsAt, ends, starts}
+use Rattle.model.specs.RuleText.{foldFlag, Element, positions, positionLimit, ruleLimit}
 use Rattle.model.specs.NumberedAnswers.{Parsed, refused, accepted, parse, positionsBy, rulePositions, wholeRefusal, overwrite}
 use Rattle.model.specs.References.{formLimit, decode}
 use Rattle.model.specs.PlainScan.{Call, plainScan, nothingKept, keptAfter, reportedEnds}
@@ -26,7 +26,7 @@ use Rattle.model.proofs.Plans.{plan-ends}
 use Rattle.model.proofs.Windows.{no-start-passed}
 use Rattle.references.specs.declared.Answer.{Answer}
 use Rattle.scan.specs.declared.Opened.{Opened}
-use Rattle.scan.specs.Opening.{answerBy, leftBy, OpenIs}
+use Rattle.scan.specs.Opening.{answerBy, OpenIs}
 use Rattle.scan.specs.Calls.{runFrom, Bytes, PiecesAreBytes}
 use Rattle.scan.proofs.PlainScan.{scan-is-plain}
 use Rattle.finder.specs.Searching.{answering, searchAnswer, searchList, SearchIs}
@@ -139,6 +139,6 @@ module _ (flag : ℕ) (rule : List ℕ) (bytes : Bytes rule) (s₀ : List ℕ) (
         alike = λ ds d f g e. all-same cs b ds d f g e;
         alike-search = λ ds e list r r₂ l l₂ x y. (
           x .answers ∙ ap (λ (t : List ℕ). searchAnswer flag t (length list) (parse (foldFlag flag) rule)) e ∙ sym (y .answers),
-          x .lists ∙ ap (λ (t : List ℕ). searchList flag t list (parse (foldFlag flag) rule)) e ∙ sym (y .lists)
+          x .lists ∙ ap (λ (t : List ℕ). searchList flag t list (parse (foldFlag flag) rule)) e ∙ sym (y .lists),
         );
       }

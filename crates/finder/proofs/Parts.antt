@@ -1,12 +1,12 @@
 -- The parts of a search, and the whole. On plain values. Assumes nothing.
 use mathlib.Core.Path.{_≡_, refl, sym, ap, ap₂, subst, _∙_}
-use mathlib.Core.Bool.{Bool, true, false, cond}
-use mathlib.Core.List.{List, [], _∷_, reverse}
-use Prim.Native.Nat.{ℕ, zero, suc, _+_, _≤_, _<_, _^_}
+use mathlib.Core.Bool.{true, false}
+use mathlib.Core.List.{List, [], _∷_}
+use Prim.Native.Nat.{ℕ, suc, _≤_, _<_}
 use native.Mathlib.Omega.{arith}
 use mir.Syntax.{w8}
 use mir.Val.{Fits}
-use lib.Dec.{T, eqb, lt→ltb}
+use lib.Dec.{T, lt→ltb}
 use lib.ListN.{length, getD}
 use borrow.Author.Tests.{eq-eqb, ne-eqb, lt-ltb, le-ltb}
 use Rattle.model.specs.Occurrence.{Position, all, shortest, starts}
@@ -18,10 +18,9 @@ use Rattle.model.proofs.Accepted.{rule-ok, shortest-length}
 use Rattle.words.specs.Masks.{Encodes}
 use Rattle.references.specs.declared.Answer.{Answer}
 use Rattle.rules.specs.declared.Prepared.{Prepared}
-use Rattle.rules.specs.Preparing.{answerOf, preparedBy, prepared, Prepares}
+use Rattle.rules.specs.Preparing.{preparedBy, prepared, Prepares}
 use Rattle.rules.specs.Tables.{Fillable, Filled}
-use Rattle.rules.proofs.Encoded.{is-accepted, is-answer, may-fill, positions-are, shortest-is, encodes-forwards, encodes-reversed}
-use Rattle.windows.specs.Reading.{Tables}
+use Rattle.rules.proofs.Encoded.{is-accepted, may-fill, positions-are, shortest-is, encodes-forwards, encodes-reversed}
 use Rattle.searches.specs.declared.Rule.{Rule}
 use Rattle.searches.specs.declared.Found.{Found}
 use Rattle.searches.specs.Searching.{RuleFits, RuleOf, SearchFits, SearchedIs}

@@ -1,11 +1,11 @@
 -- The window search of a whole decoded text: what it answers and leaves, in every case. Assumes nothing.
 use mathlib.Core.Path.{_≡_}
-use mathlib.Core.Bool.{Bool, true, false, cond}
+use mathlib.Core.Bool.{cond}
 use mathlib.Core.List.{List}
 use Prim.Native.Nat.{ℕ, _≤_, _<_, _^_}
 use lib.Dec.{eqb}
 use lib.ListN.{length}
-use Rattle.model.specs.Occurrence.{Position, starts}
+use Rattle.model.specs.Occurrence.{starts}
 use Rattle.model.specs.RuleText.{foldFlag, positions}
 use Rattle.model.specs.NumberedAnswers.{textLimit, Parsed, refused, accepted, parse, rulePositions, wholeRefusal, overwrite}
 use Rattle.model.specs.WindowSearch.{windows}

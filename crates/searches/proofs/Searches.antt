@@ -2,35 +2,26 @@
 -- search, where the rest of the starts comes from a backward pass. Assumes nothing.
 use mathlib.Core.Path.{_≡_, refl, sym, ap, subst, _∙_}
 use mathlib.Core.Bool.{Bool, true, false}
-use mathlib.Core.List.{List, [], _∷_, _++_, append-nil, reverse}
-use Prim.Native.Nat.{ℕ, zero, suc, _+_, _-_, _*_, _^_, _≤_, _<_}
-use native.Mathlib.Nat.{add-zero, zero-add}
+use mathlib.Core.List.{List}
+use Prim.Native.Nat.{ℕ, suc, _+_, _-_, _*_, _≤_, _<_}
+use native.Mathlib.Nat.{zero-add}
 use native.Mathlib.Numerals.{add-one}
 use native.Mathlib.Omega.{arith}
-use lib.Dec.{T}
-use lib.ListN.{length, drop, getD, set, length-set}
-use lib.Seq.{sets, sets-eq, length-slice}
-use Rattle.model.specs.Occurrence.{Position, OccursAt, StartsAt, shortest, consIf, allFrom, isStart, starts}
-use Rattle.model.specs.WindowSearch.{Inhabited, isBeginning, windowAt, shift, windowsFrom, windows}
-use Rattle.model.proofs.Truth.{T-true, T-false}
-use Rattle.model.proofs.Decided.{start-decided}
-use Rattle.model.proofs.Windows.{occurs-length, shift-is, no-start-passed, starts-are-verified, windows-next, windows-stop}
-use Rattle.words.specs.Masks.{Encodes}
-use Rattle.windows.specs.declared.Masks.{Masks}
+use lib.ListN.{length, getD, set, length-set}
+use lib.Seq.{sets, sets-eq}
+use Rattle.model.specs.Occurrence.{Position, shortest, consIf, isStart, starts}
+use Rattle.model.specs.WindowSearch.{windowAt, shift, windowsFrom, windows}
+use Rattle.model.proofs.Windows.{windows-next, windows-stop}
 use Rattle.windows.specs.declared.Seen.{Seen}
-use Rattle.windows.specs.declared.End.{End}
-use Rattle.windows.specs.declared.End.the-variants.{At, Dead, Open}
-use Rattle.windows.specs.Reading.{lastIf, Tables, Window, Within, SeenIs, EndIs, startsBack, CountIs, WroteIs, RestFine, WrittenIs}
-use Rattle.windows.proofs.Shifts.{seen-means, unknown-means}
-use Rattle.windows.proofs.Ends.{Means, opened-means}
-use Rattle.windows.proofs.Reversed.{all-last, back-means}
+use Rattle.windows.specs.Reading.{SeenIs, startsBack, RestFine, WrittenIs}
+use Rattle.windows.proofs.Reversed.{back-means}
 use Rattle.searches.specs.declared.Rule.{Rule}
 use Rattle.searches.specs.declared.Part.{Part}
 use Rattle.searches.specs.declared.Tried.{Tried}
-use Rattle.searches.specs.declared.Tried.the-variants.{Start, Empty, Spent}
-use Rattle.searches.specs.Searching.{RuleFits, Mirrors, RuleOf, Spends, Allowed, CheckFits, CheckMeans, CheckedIs, TryFits, TryMeans, TriedIs, TriesIs, restStarts, Rest, PartIs, SearchFits, Searched, SearchedIs}
+use Rattle.searches.specs.declared.Tried.the-variants.{Start, Empty}
+use Rattle.searches.specs.Searching.{Mirrors, RuleOf, TryFits, TryMeans, TriedIs, TriesIs, restStarts, Rest, PartIs, SearchFits, SearchedIs}
 use Rattle.searches.proofs.Rests.{rest-all, rest-back, rest-move}
-use Rattle.searches.proofs.Tries.{seen-shift, missed, unknown-shift, unknown-missed}
+use Rattle.searches.proofs.Tries.{seen-shift, unknown-shift, unknown-missed}
 
 -- ---- the sequence of windows
 

@@ -1,9 +1,9 @@
 -- What the window search gives, over the tables of a list of positions: the starts and the windows of the model, whatever way they were found. Assumes nothing.
 use mathlib.Core.Path.{_≡_}
-use mathlib.Core.Bool.{Bool, true, false}
-use mathlib.Core.List.{List, [], _∷_, _++_, reverse}
+use mathlib.Core.Bool.{true, false}
+use mathlib.Core.List.{List, reverse}
 use Prim.Native.Nat.{ℕ, suc, _+_, _-_, _*_, _^_, _≤_, _<_}
-use lib.ListN.{length, getD, drop}
+use lib.ListN.{length, getD}
 use lib.Seq.{sets}
 use Rattle.model.specs.Occurrence.{Position, shortest, allFrom, isStart, starts}
 use Rattle.model.specs.NumberedAnswers.{overwrite}

@@ -50,14 +50,7 @@ fn allowed(len: usize, w: usize, spent: usize) -> usize
 }
 
 // Verifies from w, as far as the budget goes. The shift is handed on.
-fn checked(
-    forward: &[u64],
-    m: Masks,
-    text: &[u8],
-    w: usize,
-    spent: usize,
-    shift: usize,
-) -> Tried
+fn checked(forward: &[u64], m: Masks, text: &[u8], w: usize, spent: usize, shift: usize) -> Tried
     requires { ⌜ Tables (now forward) m ⌝ }
     requires { ⌜ Spends (length (now text)) w spent ⌝ }
     ensures { λ x. ⌜ CheckedIs (now (forward .entry)) m (now (text .entry)) w shift x ⌝ }
@@ -132,13 +125,7 @@ fn count_windows(forward: &[u64], reversed: &[u64], rule: Rule, text: &[u8], w: 
 
 // Tries the windows one after another, and writes the starts into the list from its front, until the
 // windows or the budget are at their end.
-fn verified(
-    forward: &[u64],
-    reversed: &[u64],
-    rule: Rule,
-    text: &[u8],
-    starts: &mut [u32],
-) -> Part
+fn verified(forward: &[u64], reversed: &[u64], rule: Rule, text: &[u8], starts: &mut [u32]) -> Part
     requires { ⌜ RuleFits (now forward) (now reversed) rule ⌝ }
     requires { ⌜ length (now text) < 2 ^ 32 ⌝ }
     requires { ⌜ length (now text) ≤ length (now starts) ⌝ }

@@ -1,20 +1,15 @@
 -- The loops of `count_back` and `write_back`. On plain values. Assumes nothing.
 use mathlib.Core.Path.{_≡_, refl, sym, ap, _∙_}
-use mathlib.Core.Bool.{Bool, true, false, cond}
+use mathlib.Core.Bool.{Bool, true, false}
 use mathlib.Core.List.{List, [], _∷_, _++_, append-nil}
 use Prim.Native.Nat.{ℕ, zero, suc, _+_, _-_, _≤_, _<_}
 use native.Mathlib.Nat.{add-zero}
 use native.Mathlib.Omega.{arith}
 use lib.ListN.{length, getD, set, length-set, length-append}
-use lib.Seq.{sets, length-sets, set-comm}
-use lib.Dec.{eqb}
-use borrow.Author.Tests.{eq-eqb, ne-eqb}
+use lib.Seq.{sets, set-comm}
 use Rattle.words.specs.ForwardStep.{opening, topBit}
 use Rattle.windows.specs.declared.Masks.{Masks}
-use Rattle.windows.specs.declared.Seen.{Seen}
-use Rattle.windows.specs.declared.End.{End}
-use Rattle.windows.specs.declared.End.the-variants.{At, Dead, Open}
-use Rattle.windows.specs.Reading.{stepN, every, lastIf, stepAt, seenN, endedN, backN, Window, SeenIs, EndIs, startsBack, CountIs, WriteFine, WroteIs, RestFine, WrittenIs}
+use Rattle.windows.specs.Reading.{stepN, lastIf, stepAt, backN, startsBack, CountIs, WriteFine, WroteIs, RestFine}
 
 -- a store after a run of stores is a store before them
 sets-last : (l : List ℕ) (i : ℕ) (xs : List ℕ) (v : ℕ) → sets l i (xs ++ (v ∷ [])) ≡ sets (set l (i + length xs) v) i xs

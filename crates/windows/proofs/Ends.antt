@@ -1,35 +1,31 @@
 -- What `verify` computes over the forward table of a list of positions: the earliest end of an occurrence from the start, or that there is none. Assumes nothing.
-use mathlib.Core.Path.{_≡_, refl, sym, ap, ap₂, subst, _∙_}
-use mathlib.Core.Bool.{Bool, true, false, cond, _&&_, _||_}
-use mathlib.Core.Logic.{_⊎_, inl, inr, _↔_}
-use mathlib.Core.List.{List, [], _∷_, _++_, reverse, reverse-cons, reverse-append, reverse-reverse, append-assoc, append-nil}
+use mathlib.Core.Path.{_≡_, refl, sym, ap, subst, _∙_}
+use mathlib.Core.Bool.{Bool, true, false, cond}
+use mathlib.Core.Logic.{_↔_}
+use mathlib.Core.List.{List, [], _∷_, _++_}
 use Prim.Native.Nat.{ℕ, zero, suc, _+_, _-_, _≤_, _<_}
-use native.Mathlib.Nat.{add-zero, zero-add, suc-add}
+use native.Mathlib.Nat.{add-zero}
 use native.Mathlib.Numerals.{add-one}
 use native.Mathlib.Decide.{decLe}
 use native.Mathlib.Omega.{arith}
 use lib.Dec.{T, eqb}
-use lib.ListN.{length, take, drop, getD, length-append, length-reverse, drop-of-length-le, length-take, length-drop, take-append-drop}
-use lib.Seq.{drop-cons, getD-take, getD-drop, take-suc, drop-append-le, length-take-le, slice-empty, drop-length, take-nil, take-append-seam, length-slice}
-use borrow.Author.Tests.{eqb-true, eqb-false}
-use Rattle.model.specs.Occurrence.{Position, Occurs, stretch, OccursAt, StartsAt, shortest, oneIf, consIf, allFrom, isOccurrence, isStart, starts}
-use Rattle.model.specs.WindowSearch.{Inhabited, isBeginning, leastFrom, windowAt, shift}
-use Rattle.model.proofs.Truth.{T-true, T-false}
-use Rattle.model.proofs.Law.{nth, stepBit, Steps}
+use lib.ListN.{length, take, drop, getD}
+use lib.Seq.{take-suc, drop-append-le, length-take-le, slice-empty}
+use borrow.Author.Tests.{eqb-true}
+use Rattle.model.specs.Occurrence.{Position, Occurs, stretch, OccursAt, isOccurrence}
+use Rattle.model.proofs.Law.{Steps}
 use Rattle.model.proofs.Searches as Searches
-use Rattle.model.proofs.Decided.{occurrence-decided, start-decided}
+use Rattle.model.proofs.Decided.{occurrence-decided}
 use Rattle.words.specs.Bit.{bit}
-use Rattle.words.specs.ForwardStep.{onByte, opening, topBit}
-use Rattle.words.specs.Masks.{Encodes, admitsMask}
+use Rattle.words.specs.ForwardStep.{opening, topBit}
+use Rattle.words.specs.Masks.{Encodes}
 use Rattle.words.proofs.Digits.{none-bit}
-use Rattle.words.proofs.MaskLaws.{mask-bit}
 use Rattle.words.proofs.Bridge as Bridge
-use Rattle.words.proofs.Bridge.{Scanned, Anchored, Backward, anchored-top, backward-top}
+use Rattle.words.proofs.Bridge.{Anchored, anchored-top}
 use Rattle.windows.specs.declared.Masks.{Masks}
-use Rattle.windows.specs.declared.Seen.{Seen}
 use Rattle.windows.specs.declared.End.{End}
 use Rattle.windows.specs.declared.End.the-variants.{At, Dead, Open}
-use Rattle.windows.specs.Reading.{stepN, every, lastIf, stepAt, seenN, endedN, backN, startsBack}
+use Rattle.windows.specs.Reading.{stepAt, endedN}
 use Rattle.windows.proofs.Steps.{step-is, none-steps}
 
 -- the stretch of one byte more

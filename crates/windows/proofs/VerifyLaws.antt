@@ -1,20 +1,16 @@
 -- The loop of `verify`. On plain values. Assumes nothing.
-use mathlib.Core.Path.{_≡_, refl, sym, ap, _∙_}
+use mathlib.Core.Path.{_≡_, sym, _∙_}
 use mathlib.Core.Bool.{Bool, true, false, cond}
-use mathlib.Core.List.{List, [], _∷_, _++_, append-nil}
-use Prim.Native.Nat.{ℕ, zero, suc, _+_, _-_, _≤_, _<_}
-use native.Mathlib.Nat.{add-zero}
+use mathlib.Core.List.{List}
+use Prim.Native.Nat.{ℕ, suc, _+_, _-_, _≤_, _<_}
 use native.Mathlib.Omega.{arith}
-use lib.ListN.{length, getD, set, length-set, length-append}
-use lib.Seq.{sets, length-sets, set-comm}
+use lib.ListN.{getD}
 use lib.Dec.{eqb}
 use borrow.Author.Tests.{eq-eqb, ne-eqb}
 use Rattle.words.specs.ForwardStep.{opening, topBit}
 use Rattle.windows.specs.declared.Masks.{Masks}
-use Rattle.windows.specs.declared.Seen.{Seen}
-use Rattle.windows.specs.declared.End.{End}
 use Rattle.windows.specs.declared.End.the-variants.{At, Dead, Open}
-use Rattle.windows.specs.Reading.{stepN, every, lastIf, stepAt, seenN, endedN, backN, Window, SeenIs, EndIs, startsBack, CountIs, WriteFine, WroteIs, RestFine, WrittenIs}
+use Rattle.windows.specs.Reading.{stepN, stepAt, endedN, EndIs}
 
 -- the invariant: the bytes from e up to `stop` may still be read
 pub record Verifying (t : List ℕ) (m : Masks) (text : List ℕ) (s stop d e : ℕ) : Type 0 where

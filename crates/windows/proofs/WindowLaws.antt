@@ -1,20 +1,15 @@
 -- The loop of `window_shift`: what the rest of the window would make of the present values is what the whole window makes of the first ones. On plain values. Assumes nothing.
-use mathlib.Core.Path.{_≡_, refl, sym, ap, _∙_}
+use mathlib.Core.Path.{_≡_, refl, sym, _∙_}
 use mathlib.Core.Bool.{Bool, true, false, cond}
-use mathlib.Core.List.{List, [], _∷_, _++_, append-nil}
+use mathlib.Core.List.{List}
 use Prim.Native.Nat.{ℕ, zero, suc, _+_, _-_, _≤_, _<_}
-use native.Mathlib.Nat.{add-zero}
 use native.Mathlib.Omega.{arith}
-use lib.ListN.{length, getD, set, length-set, length-append}
-use lib.Seq.{sets, length-sets, set-comm}
+use lib.ListN.{length, getD}
 use lib.Dec.{eqb}
 use borrow.Author.Tests.{eq-eqb, ne-eqb}
-use Rattle.words.specs.ForwardStep.{opening, topBit}
+use Rattle.words.specs.ForwardStep.{topBit}
 use Rattle.windows.specs.declared.Masks.{Masks}
-use Rattle.windows.specs.declared.Seen.{Seen}
-use Rattle.windows.specs.declared.End.{End}
-use Rattle.windows.specs.declared.End.the-variants.{At, Dead, Open}
-use Rattle.windows.specs.Reading.{stepN, every, lastIf, stepAt, seenN, endedN, backN, Window, SeenIs, EndIs, startsBack, CountIs, WriteFine, WroteIs, RestFine, WrittenIs}
+use Rattle.windows.specs.Reading.{stepN, every, stepAt, seenN, Window, SeenIs}
 
 -- the invariant: bytes j .. 1 are still to be read, and then byte 0
 pub record Looking (t : List ℕ) (m : Masks) (size : ℕ) (text : List ℕ) (w d last j : ℕ) : Type 0 where

@@ -1,3 +1,4 @@
+-- `finder::search` meets its contract. Its laws are in this crate's `proofs/`; `search LAW` finds a law's premises in `c`. Assumes nothing.
 use Rattle.finder.proofs.Parts.{search-refused, search-not-whole, search-ready, search-done}
 use borrow.Author.Needs.{needs}
 use Rattle.finder.proofs.search.Statement.{statement}
@@ -9,39 +10,30 @@ use Rattle.finder.proofs.search_accepted.Reads as search-accepted-reads
 use Rattle.finder.proofs.whole.Reads as whole-reads
 use Rattle.rules.proofs.prepare.Reads as prepare-reads
 
--- src/lib.rt:84:9
 prepare-requires : tie.Need-prepare-requires
 prepare-requires c κs = search needs
 
--- src/lib.rt:86:9
 answer-requires : tie.Need-answer-requires
 answer-requires c κs = search needs
 
--- src/lib.rt:86:9
 returns : tie.Need-returns
 returns c = search search-refused
 
--- src/lib.rt:88:9
 whole-requires : tie.Need-whole-requires
 whole-requires c κs = search needs
 
--- src/lib.rt:90:9
 answer-requires-2 : tie.Need-answer-requires-2
 answer-requires-2 c κs = search needs
 
--- src/lib.rt:90:9
 returns-2 : tie.Need-returns-2
 returns-2 c = search search-not-whole
 
--- src/lib.rt:92:5
 search-accepted-requires : tie.Need-search-accepted-requires
 search-accepted-requires c κs = search search-ready
 
--- src/lib.rt:81:1
 same-length : tie.Need-same-length
 same-length c = search needs
 
--- src/lib.rt:81:1
 returns-3 : tie.Need-returns-3
 returns-3 c = search search-done
 

@@ -1,6 +1,6 @@
-use mathlib.Core.Path.{_≡_, refl}
+-- `finder::search_accepted` meets its contract. Its laws are in this crate's `proofs/`; `search LAW` finds a law's premises in `c`. Assumes nothing.
+use mathlib.Core.Path.{refl}
 use lib.ListN.{length}
-use native.Mathlib.Omega.{arith}
 use Rattle.finder.proofs.Parts.{bytes-known, fillable, rule-fits, search-fits, work-done}
 use borrow.Author.Needs.{needs}
 use Rattle.finder.proofs.search_accepted.Statement.{statement}
@@ -12,57 +12,44 @@ use Rattle.finder.proofs.rule_of.Reads as rule-of-reads
 use Rattle.rules.proofs.tables.fill.Reads as fill-reads
 use Rattle.searches.proofs.search_tables.Reads as search-tables-reads
 
--- src/lib.rt:69:9
 rule-of-requires : tie.Need-rule-of-requires
 rule-of-requires c κs = search needs
 
--- src/lib.rt:71:44
 slice-aggregate-fill : tie.Need-slice-aggregate-fill
 slice-aggregate-fill c = search needs
 
--- src/lib.rt:71:5
 fill-requires : tie.Need-fill-requires
 fill-requires c κs = let s = c .before .before .before .before .before in fillable (s .args .fold) (s .args .rule .now) (s .args .p) (length (s .args .text .now)) (length (s .args .starts .now)) (s .pre) _ refl
 
--- src/lib.rt:73:44
 slice-aggregate-fill-2 : tie.Need-slice-aggregate-fill-2
 slice-aggregate-fill-2 c = search needs
 
--- src/lib.rt:73:5
 fill-requires-2 : tie.Need-fill-requires-2
 fill-requires-2 c κs = let s = c .before .before .before .before .before .before .before .before in fillable (s .args .fold) (s .args .rule .now) (s .args .p) (length (s .args .text .now)) (length (s .args .starts .now)) (s .pre) _ refl
 
--- src/lib.rt:74:37
 slice-aggregate-search-tables : tie.Need-slice-aggregate-search-tables
 slice-aggregate-search-tables c = search needs
 
--- src/lib.rt:74:47
 slice-aggregate-search-tables-2 : tie.Need-slice-aggregate-search-tables-2
 slice-aggregate-search-tables-2 c = search needs
 
--- src/lib.rt:74:9
 search-tables-requires : tie.Need-search-tables-requires
 search-tables-requires c κs =
     let s = c .before .before .before .before .before .before .before .before .before .before .before .before .before in
     (rule-fits (s .args .fold) (s .args .rule .now) (s .args .p) (length (s .args .text .now)) (length (s .args .starts .now)) (s .pre) (bytes-known (s .args .rule .now) (c .before .before .before .before .before .before .before .before .before .before .before .before .shared-slice-known .given)) _ _ (c .before .before .before .before .before .before .before .before .before .rule-of .result) (c .before .before .before .before .before .before .before .before .before .rule-of .ensures) (c .before .before .before .before .before .before .before .fill .ensures) (c .before .before .before .before .fill2 .ensures), search-fits (s .args .fold) (s .args .rule .now) (s .args .p) (length (s .args .text .now)) (length (s .args .starts .now)) (s .pre))
 
--- src/lib.rt:75:17
 cast-count : tie.Need-cast-count
 cast-count c = search needs
 
--- src/lib.rt:76:19
 cast-windows : tie.Need-cast-windows
 cast-windows c = search needs
 
--- src/lib.rt:77:5
 answer-requires : tie.Need-answer-requires
 answer-requires c κs = search needs
 
--- src/lib.rt:64:1
 same-length : tie.Need-same-length
 same-length c = search needs
 
--- src/lib.rt:64:1
 returns : tie.Need-returns
 returns c =
     let s = c .before .before .before .before .before .before .before .before .before .before .before .before .before .before .before .before .before .before .before in

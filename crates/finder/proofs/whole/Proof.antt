@@ -1,19 +1,16 @@
+-- `finder::whole` meets its contract. Its laws are in this crate's `proofs/`; `search LAW` finds a law's premises in `c`. Assumes nothing.
 use Rattle.finder.proofs.Parts.{whole-10, whole-9, whole-0}
-use borrow.Author.Needs.{needs}
 use Rattle.finder.proofs.whole.Statement.{statement}
 use Rattle.finder.proofs.whole.Tie as tie
 use Rattle.finder.proofs.whole.Reads as reads
 use Rattle.finder.proofs.whole.Lts as lts
 
--- src/lib.rt:17:9
 returns : tie.Need-returns
 returns c = search whole-10
 
--- src/lib.rt:20:9
 returns-2 : tie.Need-returns-2
 returns-2 c = search whole-9
 
--- src/lib.rt:13:1
 returns-3 : tie.Need-returns-3
 returns-3 c = search whole-0
 

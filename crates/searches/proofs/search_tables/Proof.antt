@@ -1,4 +1,4 @@
-use native.Mathlib.Omega.{arith}
+-- `searches::search_tables` meets its contract. Its laws are in this crate's `proofs/`; `search LAW` finds a law's premises in `c`. Assumes nothing.
 use Rattle.searches.proofs.Searches.{rest-fits, finished}
 use borrow.Author.Needs.{needs}
 use Rattle.searches.proofs.search_tables.Statement.{statement}
@@ -9,31 +9,24 @@ use Rattle.searches.proofs.count_windows.Reads as count-windows-reads
 use Rattle.searches.proofs.verified.Reads as verified-reads
 use Rattle.windows.proofs.write_rest.Reads as write-rest-reads
 
--- src/lib.rt:203:9
 verified-requires : tie.Need-verified-requires
 verified-requires c κs = search needs
 
--- src/lib.rt:206:9
 write-rest-requires : tie.Need-write-rest-requires
 write-rest-requires c κs = (search needs, search rest-fits)
 
--- src/lib.rt:207:9
 count-windows-requires : tie.Need-count-windows-requires
 count-windows-requires c κs = search needs
 
--- src/lib.rt:208:17
 add-count : tie.Need-add-count
 add-count c = search needs
 
--- src/lib.rt:209:17
 add-tried : tie.Need-add-tried
 add-tried c = search needs
 
--- src/lib.rt:192:1
 same-length : tie.Need-same-length
 same-length c = search needs
 
--- src/lib.rt:192:1
 returns : tie.Need-returns
 returns c = search finished
 

@@ -1,3 +1,4 @@
+-- `searches::try_window` meets its contract. Its laws are in this crate's `proofs/`; `search LAW` finds a law's premises in `c`. Assumes nothing.
 use Rattle.searches.proofs.Tries.{hit, missed}
 use borrow.Author.Needs.{needs}
 use Rattle.searches.proofs.try_window.Statement.{statement}
@@ -7,19 +8,15 @@ use Rattle.searches.proofs.try_window.Lts as lts
 use Rattle.searches.proofs.checked.Reads as checked-reads
 use Rattle.windows.proofs.window_shift.Reads as window-shift-reads
 
--- src/lib.rt:101:9
 window-shift-requires : tie.Need-window-shift-requires
 window-shift-requires c κs = search needs
 
--- src/lib.rt:104:9
 checked-requires : tie.Need-checked-requires
 checked-requires c κs = search needs
 
--- src/lib.rt:104:9
 returns : tie.Need-returns
 returns c = search hit
 
--- src/lib.rt:87:1
 returns-2 : tie.Need-returns-2
 returns-2 c = search missed
 

@@ -1,3 +1,4 @@
+-- `searches::verified` meets its contract. Its laws are in this crate's `proofs/`; `search LAW` finds a law's premises in `c`. Assumes nothing.
 use native.Mathlib.Omega.{arith}
 use Prim.Native.Nat.{_-_}
 use lib.ListN.{length}
@@ -16,51 +17,39 @@ Inv-loop forward reversed rule text starts₀ w₀ count₀ tried₀ spent₀ st
 abbrev μ-loop : tie.MeasureT-loop
 μ-loop forward reversed rule text starts₀ w₀ count₀ tried₀ spent₀ starts w count tried spent = length text - w
 
--- src/lib.rt:151:5
 loop-holds : tie.Need-loop-holds Inv-loop μ-loop
 loop-holds c = search begun
 
--- src/lib.rt:151:11
 add-if1 : tie.Need-add-if1 Inv-loop μ-loop
 add-if1 c = search needs
 
--- src/lib.rt:153:38
 add-index : tie.Need-add-index Inv-loop μ-loop
 add-index c = search needs
 
--- src/lib.rt:153:38
 sub-index : tie.Need-sub-index Inv-loop μ-loop
 sub-index c = search needs
 
--- src/lib.rt:153:33
 shared-slice-read-index : tie.Need-shared-slice-read-index Inv-loop μ-loop
 shared-slice-read-index c = search needs
 
--- src/lib.rt:153:13
 index-requires : tie.Need-index-requires Inv-loop μ-loop
 index-requires c κs = search needs
 
--- src/lib.rt:154:12
 mul-if2 : tie.Need-mul-if2 Inv-loop μ-loop
 mul-if2 c = search needs
 
--- src/lib.rt:154:12
 shared-slice-read-if2 : tie.Need-shared-slice-read-if2 Inv-loop μ-loop
 shared-slice-read-if2 c = search needs
 
--- src/lib.rt:155:13
 add-tried : tie.Need-add-tried Inv-loop μ-loop
 add-tried c = search needs
 
--- src/lib.rt:156:13
 add-w : tie.Need-add-w Inv-loop μ-loop
 add-w c = search needs
 
--- src/lib.rt:151:5
 loop-less : tie.Need-loop-less Inv-loop μ-loop
 loop-less c = search needs
 
--- src/lib.rt:151:5
 loop-again : tie.Need-loop-again Inv-loop μ-loop
 loop-again c =
     let i = c .before .before .before in
@@ -68,83 +57,63 @@ loop-again c =
     let s = c .before .before .before .before .before .before .before .before .before .before .before .before .before in
     skipped _ _ _ _ _ (l .loop .inv) (c .before .before .before .before .before .before .if1 .taken) (s .pre .0 .some) (i .index .ensures .0) (c .before .if2 .taken)
 
--- src/lib.rt:159:13
 try-window-requires : tie.Need-try-window-requires Inv-loop μ-loop
 try-window-requires c κs = search needs
 
--- src/lib.rt:161:26
 enum-known-found : tie.Need-enum-known-found Inv-loop μ-loop
 enum-known-found c = search needs
 
--- src/lib.rt:162:33
 cast-starts : tie.Need-cast-starts Inv-loop μ-loop
 cast-starts c = search needs
 
--- src/lib.rt:162:17
 mul-starts : tie.Need-mul-starts Inv-loop μ-loop
 mul-starts c = search needs
 
--- src/lib.rt:162:17
 slice-write-starts : tie.Need-slice-write-starts Inv-loop μ-loop
 slice-write-starts c = search needs
 
--- src/lib.rt:163:17
 add-count : tie.Need-add-count Inv-loop μ-loop
 add-count c = search needs
 
--- src/lib.rt:164:17
 add-tried-2 : tie.Need-add-tried-2 Inv-loop μ-loop
 add-tried-2 c = search needs
 
--- src/lib.rt:166:17
 add-w-2 : tie.Need-add-w-2 Inv-loop μ-loop
 add-w-2 c = omega (arith, start-short (c .before .before .before .try-window .ensures) (c .before .found .given .1))
 
--- src/lib.rt:151:5
 loop-less-2 : tie.Need-loop-less-2 Inv-loop μ-loop
 loop-less-2 c = search start-less
 
--- src/lib.rt:151:5
 loop-again-2 : tie.Need-loop-again-2 Inv-loop μ-loop
 loop-again-2 c = search started
 
--- src/lib.rt:168:26
 enum-known-found-2 : tie.Need-enum-known-found-2 Inv-loop μ-loop
 enum-known-found-2 c = search needs
 
--- src/lib.rt:169:17
 add-tried-3 : tie.Need-add-tried-3 Inv-loop μ-loop
 add-tried-3 c = search needs
 
--- src/lib.rt:171:17
 add-w-3 : tie.Need-add-w-3 Inv-loop μ-loop
 add-w-3 c = omega (arith, empty-short (c .before .before .before .try-window .ensures) (c .before .found2 .given .1))
 
--- src/lib.rt:151:5
 loop-less-3 : tie.Need-loop-less-3 Inv-loop μ-loop
 loop-less-3 c = search empty-less
 
--- src/lib.rt:151:5
 loop-again-3 : tie.Need-loop-again-3 Inv-loop μ-loop
 loop-again-3 c = search passed
 
--- src/lib.rt:174:17
 enum-told : tie.Need-enum-told Inv-loop μ-loop
 enum-told c = search needs
 
--- src/lib.rt:174:17
 same-length : tie.Need-same-length Inv-loop μ-loop
 same-length c = search needs
 
--- src/lib.rt:174:17
 returns : tie.Need-returns Inv-loop μ-loop
 returns c = search halted
 
--- src/lib.rt:135:1
 same-length-2 : tie.Need-same-length-2 Inv-loop μ-loop
 same-length-2 c = search needs
 
--- src/lib.rt:135:1
 returns-2 : tie.Need-returns-2 Inv-loop μ-loop
 returns-2 c = search halted
 

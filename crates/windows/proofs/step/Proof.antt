@@ -1,3 +1,4 @@
+-- `windows::step` meets its contract. Its laws are in this crate's `proofs/`; `search LAW` finds a law's premises in `c`. Assumes nothing.
 use Rattle.windows.specs.Reading.{stepN}
 use borrow.Author.Needs.{needs}
 use Rattle.windows.proofs.step.Statement.{statement}
@@ -8,19 +9,15 @@ use Rattle.words.proofs.advance.Reads as advance-reads
 use Rattle.words.proofs.block_ends.Reads as block-ends-reads
 use Rattle.words.proofs.block_starts.Reads as block-starts-reads
 
--- src/lib.rt:34:9
 block-starts-requires : tie.Need-block-starts-requires
 block-starts-requires c κs = search needs
 
--- src/lib.rt:35:9
 block-ends-requires : tie.Need-block-ends-requires
 block-ends-requires c κs = search needs
 
--- src/lib.rt:36:5
 advance-requires : tie.Need-advance-requires
 advance-requires c κs = search needs
 
--- src/lib.rt:31:1
 returns : tie.Need-returns
 unfolding stepN
 returns c = cc

@@ -1,3 +1,4 @@
+-- `windows::verify` meets its contract. Its laws are in this crate's `proofs/`; `search LAW` finds a law's premises in `c`. Assumes nothing.
 use Prim.Native.Nat.{_-_}
 use Rattle.windows.proofs.VerifyLaws.{Verifying, verify-begun, verify-died, verify-ended, verify-passed, verify-over}
 use borrow.Author.Needs.{needs}
@@ -16,59 +17,45 @@ Inv-loop forward m text s stop d₀ e₀ d e = Verifying forward m text s stop d
 abbrev μ-loop : tie.MeasureT-loop
 μ-loop forward m text s stop d₀ e₀ d e = stop - e
 
--- src/lib.rt:80:9
 opening-requires : tie.Need-opening-requires Inv-loop μ-loop
 opening-requires c κs = search needs
 
--- src/lib.rt:82:5
 loop-holds : tie.Need-loop-holds Inv-loop μ-loop
 loop-holds c = search verify-begun
 
--- src/lib.rt:83:30
 shared-slice-read-index : tie.Need-shared-slice-read-index Inv-loop μ-loop
 shared-slice-read-index c = search needs
 
--- src/lib.rt:83:13
 index-requires : tie.Need-index-requires Inv-loop μ-loop
 index-requires c κs = search needs
 
--- src/lib.rt:84:21
 mul-step : tie.Need-mul-step Inv-loop μ-loop
 mul-step c = search needs
 
--- src/lib.rt:84:21
 shared-slice-read-step : tie.Need-shared-slice-read-step Inv-loop μ-loop
 shared-slice-read-step c = search needs
 
--- src/lib.rt:84:9
 step-requires : tie.Need-step-requires Inv-loop μ-loop
 step-requires c κs = search needs
 
--- src/lib.rt:85:9
 add-e : tie.Need-add-e Inv-loop μ-loop
 add-e c = search needs
 
--- src/lib.rt:87:13
 returns : tie.Need-returns Inv-loop μ-loop
 returns c = search verify-died
 
--- src/lib.rt:89:12
 reports-requires : tie.Need-reports-requires Inv-loop μ-loop
 reports-requires c κs = search needs
 
--- src/lib.rt:90:13
 returns-2 : tie.Need-returns-2 Inv-loop μ-loop
 returns-2 c = search verify-ended
 
--- src/lib.rt:82:5
 loop-less : tie.Need-loop-less Inv-loop μ-loop
 loop-less c = search needs
 
--- src/lib.rt:82:5
 loop-again : tie.Need-loop-again Inv-loop μ-loop
 loop-again c = search verify-passed
 
--- src/lib.rt:74:1
 returns-3 : tie.Need-returns-3 Inv-loop μ-loop
 returns-3 c = search verify-over
 

@@ -1,3 +1,4 @@
+-- `windows::window_shift` meets its contract. Its laws are in this crate's `proofs/`; `search LAW` finds a law's premises in `c`. Assumes nothing.
 use Rattle.windows.proofs.WindowLaws.{Looking, look-begun, look-emptied, look-begins, look-passed, look-over}
 use borrow.Author.Needs.{needs}
 use Rattle.windows.proofs.window_shift.Statement.{statement}
@@ -14,91 +15,69 @@ Inv-loop reversed m size text w d₀ last₀ j₀ d last j = Looking reversed m 
 abbrev μ-loop : tie.MeasureT-loop
 μ-loop reversed m size text w d₀ last₀ j₀ d last j = j
 
--- src/lib.rt:48:17
 sub-j : tie.Need-sub-j Inv-loop μ-loop
 sub-j c = search needs
 
--- src/lib.rt:49:5
 loop-holds : tie.Need-loop-holds Inv-loop μ-loop
 loop-holds c = search look-begun
 
--- src/lib.rt:50:35
 add-index : tie.Need-add-index Inv-loop μ-loop
 add-index c = search needs
 
--- src/lib.rt:50:30
 shared-slice-read-index : tie.Need-shared-slice-read-index Inv-loop μ-loop
 shared-slice-read-index c = search needs
 
--- src/lib.rt:50:13
 index-requires : tie.Need-index-requires Inv-loop μ-loop
 index-requires c κs = search needs
 
--- src/lib.rt:51:21
 mul-step : tie.Need-mul-step Inv-loop μ-loop
 mul-step c = search needs
 
--- src/lib.rt:51:21
 shared-slice-read-step : tie.Need-shared-slice-read-step Inv-loop μ-loop
 shared-slice-read-step c = search needs
 
--- src/lib.rt:51:9
 step-requires : tie.Need-step-requires Inv-loop μ-loop
 step-requires c κs = search needs
 
--- src/lib.rt:53:13
 returns : tie.Need-returns Inv-loop μ-loop
 returns c = search look-emptied
 
--- src/lib.rt:59:9
 sub-j-2 : tie.Need-sub-j-2 Inv-loop μ-loop
 sub-j-2 c = search needs
 
--- src/lib.rt:60:12
 reports-requires : tie.Need-reports-requires Inv-loop μ-loop
 reports-requires c κs = search needs
 
--- src/lib.rt:49:5
 loop-less : tie.Need-loop-less Inv-loop μ-loop
 loop-less c = search needs
 
--- src/lib.rt:49:5
 loop-again : tie.Need-loop-again Inv-loop μ-loop
 loop-again c = search look-begins
 
--- src/lib.rt:49:5
 loop-less-2 : tie.Need-loop-less-2 Inv-loop μ-loop
 loop-less-2 c = search needs
 
--- src/lib.rt:49:5
 loop-again-2 : tie.Need-loop-again-2 Inv-loop μ-loop
 loop-again-2 c = search look-passed
 
--- src/lib.rt:64:26
 shared-slice-read-index-2 : tie.Need-shared-slice-read-index-2 Inv-loop μ-loop
 shared-slice-read-index-2 c = search needs
 
--- src/lib.rt:64:9
 index-requires-2 : tie.Need-index-requires-2 Inv-loop μ-loop
 index-requires-2 c κs = search needs
 
--- src/lib.rt:65:17
 mul-step-2 : tie.Need-mul-step-2 Inv-loop μ-loop
 mul-step-2 c = search needs
 
--- src/lib.rt:65:17
 shared-slice-read-step-2 : tie.Need-shared-slice-read-step-2 Inv-loop μ-loop
 shared-slice-read-step-2 c = search needs
 
--- src/lib.rt:65:5
 step-requires-2 : tie.Need-step-requires-2 Inv-loop μ-loop
 step-requires-2 c κs = search needs
 
--- src/lib.rt:66:9
 reports-requires-2 : tie.Need-reports-requires-2 Inv-loop μ-loop
 reports-requires-2 c κs = search needs
 
--- src/lib.rt:41:1
 returns-2 : tie.Need-returns-2 Inv-loop μ-loop
 returns-2 c = search look-over
 
