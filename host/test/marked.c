@@ -241,7 +241,7 @@ static void test_scan_words(void)
     }
 }
 
-/* A held tail of JAZHUPPE_HELD_MOST bytes, let through by one more: a feed of one byte reports one end more than that. */
+/* A held tail of JAZHUPPE_HELD_MOST bytes, let through by one more: a feed of one byte reports that many ends. */
 static void test_held_most(void)
 {
     const char *tail = "&#1234567";

@@ -389,12 +389,15 @@ static cutting *cuts_from(const second_rule *rule, const uint8_t *text, size_t l
     return &c;
 }
 
-bool second_fills(const second_rule *rule, size_t positions, const uint8_t *text, size_t text_len)
+void second_filled(const second_rule *rule, const uint8_t *text, size_t text_len, bool *filled)
 {
-    for (size_t start = 0; start <= text_len; start++)
-        if (cuts_from(rule, text, text_len, start)->tried[positions][text_len])
-            return true;
-    return false;
+    memset(filled, 0, (rule->count + 1) * sizeof *filled);
+    for (size_t start = 0; start <= text_len; start++) {
+        const cutting *c = cuts_from(rule, text, text_len, start);
+
+        for (size_t i = 0; i <= rule->count; i++)
+            filled[i] = filled[i] || c->tried[i][text_len];
+    }
 }
 
 /* The earliest end of an occurrence that starts there, or 0. */

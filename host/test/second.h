@@ -20,7 +20,7 @@ typedef struct {
     second_position positions[JAZHUPPE_POSITIONS_MOST];
 } second_rule;
 
-enum { SECOND_PLAN_MOST = 1024 };
+enum { SECOND_PLAN_MOST = 2048 };
 
 /* The plain scan: the rule, the bytes taken, and whether it has finished. */
 typedef struct {
@@ -41,8 +41,8 @@ size_t second_decoded(const uint8_t *raw, size_t raw_len, uint8_t *out);
 /* What the plain scan has decoded so far; out has room for all bytes taken. */
 size_t second_text(const second_scan *scan, uint8_t *out);
 
-/* Whether some tail of the text can be cut into shares for the first so many positions. */
-bool second_fills(const second_rule *rule, size_t positions, const uint8_t *text, size_t text_len);
+/* For each i up to the count of positions: whether some tail of the text can be cut into shares for the first i. */
+void second_filled(const second_rule *rule, const uint8_t *text, size_t text_len, bool *filled);
 
 jazhuppe_prepared second_prepare(const uint8_t *rule, size_t rule_len, uint32_t fold);
 jazhuppe_prepared second_open(const uint8_t *rule, size_t rule_len, uint32_t fold, second_scan *scan);
