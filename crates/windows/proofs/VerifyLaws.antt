@@ -8,7 +8,7 @@ use lib.ListN.{getD}
 use lib.Dec.{eqb}
 use borrow.Author.Tests.{eq-eqb, ne-eqb}
 use Rattle.words.specs.ForwardStep.{opening, topBit}
-use Rattle.windows.specs.declared.Masks.{Masks}
+use Rattle.stepping.specs.declared.Masks.{Masks}
 use Rattle.windows.specs.declared.End.the-variants.{At, Dead, Open}
 use Rattle.windows.specs.Reading.{stepN, stepAt, endedN, EndIs}
 

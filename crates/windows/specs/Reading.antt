@@ -9,7 +9,7 @@ use lib.ListN.{length, getD}
 use lib.Seq.{sets}
 use lib.Dec.{eqb}
 use Rattle.words.specs.ForwardStep.{advance, blockStarts, blockEnds, opening, topBit}
-use Rattle.windows.specs.declared.Masks.{Masks}
+use Rattle.stepping.specs.declared.Masks.{Masks}
 use Rattle.windows.specs.declared.Seen.{Seen}
 use Rattle.windows.specs.declared.End.{End}
 use Rattle.windows.specs.declared.End.the-variants.{At, Dead, Open}

@@ -2,16 +2,10 @@
 // and all the text backwards. Each contract is an equation with a definition of `specs/Reading.antt`,
 // for any table and masks.
 ghost use mathlib.Core.Path.{_≡_};
-ghost use Prim.Native.Nat.{_+_, _≤_, _<_, _^_};
+ghost use Prim.Native.Nat.{_+_, _≤_, _<_};
 ghost use lib.ListN.{length};
-ghost use Rattle.windows.specs.Reading.{Tables, Window, stepN, SeenIs, EndIs, startsBack, CountIs, WriteFine, WroteIs, RestFine, WrittenIs};
-
-// A rule in one direction: the positions that repeat, the optional ones, and the number of the top one.
-pub struct Masks {
-    pub repeats: u64,
-    pub optional: u64,
-    pub top: u64,
-}
+ghost use Rattle.windows.specs.Reading.{Tables, Window, stepN, SeenIs, EndIs, CountIs, WriteFine, WroteIs, RestFine, WrittenIs};
+use stepping::Masks;
 
 // What a window says: the published shift, and whether its bytes begin a string that the rule admits.
 pub struct Seen {
