@@ -264,8 +264,9 @@ static int take_ends(const plan *p, jazhuppe_answer a, const uint32_t *ends)
 static int feed_piece(const plan *p, uint64_t *scan, const uint8_t *piece, size_t length)
 {
     uint32_t ends[PIECE + JAZHUPPE_HELD_MOST];
+    size_t list = length + JAZHUPPE_HELD_MOST;
 
-    return take_ends(p, jazhuppe_feed(scan, JAZHUPPE_SCAN_WORDS, piece, length, ends, length + JAZHUPPE_HELD_MOST), ends);
+    return take_ends(p, jazhuppe_feed(scan, JAZHUPPE_SCAN_WORDS, piece, length, ends, list), ends);
 }
 
 static int finish_plan(const plan *p, uint64_t *scan)
