@@ -1,11 +1,9 @@
 /* differential.c: random cases through the header, each answer and every lent entry held against the second
  * implementation. `differential [SEED [CASES]]`; a difference prints the whole case and ends the run. */
-#define _DEFAULT_SOURCE
 #include <stdarg.h>
 #include <stdio.h>
 #include <stdlib.h>
 #include <string.h>
-#include <sys/mman.h>
 
 #include "jazhuppe.h"
 #include "random.h"
@@ -618,11 +616,7 @@ int main(int argc, char **argv)
     text_room = lent_room(PLAN_MOST);
     scan_room = lent_room((WORDS + 1) * sizeof(uint64_t));
     list_room = lent_room((PLAN_MOST + 2 * NINE) * sizeof(uint32_t));
-    too_much = mmap(NULL, over, PROT_NONE, MAP_PRIVATE | MAP_ANONYMOUS | MAP_NORESERVE, -1, 0);
-    if (too_much == MAP_FAILED) {
-        perror("mmap");
-        return 2;
-    }
+    too_much = untouchable_memory(over);
     printf("differential: seed %llu, %u cases\n", seed, cases);
     for (case_number = 0; case_number < cases; case_number++)
         try_case();

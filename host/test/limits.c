@@ -14,15 +14,6 @@ static const size_t over = (size_t)JAZHUPPE_TEXT_MOST + 1, most = JAZHUPPE_TEXT_
 
 static lent scan_room, list_room;
 
-/* Memory without pages of its own yet; with PROT_NONE, which nobody may touch. NULL if there is none. */
-static void *lazy(size_t bytes, int protection)
-{
-    void *memory = mmap(NULL, bytes, protection, MAP_PRIVATE | MAP_ANONYMOUS | MAP_NORESERVE, -1, 0);
-
-    CHECK(memory != MAP_FAILED);
-    return memory == MAP_FAILED ? NULL : memory;
-}
-
 static bool answers(jazhuppe_answer a, uint32_t number, uint32_t place)
 {
     return a.number == number && a.place == place && a.count == 0 && a.windows == 0;
@@ -40,13 +31,10 @@ static uint64_t *open_scan(const char *rule)
 /* The rule, then 10, then 9; no byte of the text is touched. */
 static void test_whole_text(void)
 {
-    const uint8_t *text = lazy(over, PROT_NONE), *rule = (const uint8_t *)"a?";
+    const uint8_t *text = untouchable_memory(over), *rule = (const uint8_t *)"a?";
     void *list = lend(&list_room, 9 * sizeof(uint32_t));
-    jazhuppe_span shown;
+    jazhuppe_span shown = jazhuppe_show(rule, 1, 0, text, over, 0);
 
-    if (text == NULL)
-        return;
-    shown = jazhuppe_show(rule, 1, 0, text, over, 0);
     CHECK(answers(jazhuppe_search(rule, 2, 0, text, over, list, 9), JAZHUPPE_ADMITS_EMPTY, 2));
     CHECK(answers(jazhuppe_search(rule, 1, 0, text, over, list, 9), JAZHUPPE_TOO_MUCH, 0));
     CHECK(answers(jazhuppe_search(rule, 1, 0, text, most, list, 9), JAZHUPPE_TOO_SHORT, 0));
@@ -61,10 +49,8 @@ static void test_whole_text(void)
 static void test_long_lists(void)
 {
     size_t bytes = over * sizeof(uint32_t);
-    void *text = lazy(over, PROT_NONE), *list = lazy(bytes, PROT_NONE);
+    void *text = untouchable_memory(over), *list = untouchable_memory(bytes);
 
-    if (text == NULL || list == NULL)
-        return;
     CHECK(answers(jazhuppe_search((const uint8_t *)"a", 1, 0, text, over, list, over), JAZHUPPE_TOO_MUCH, 0));
     CHECK(answers(jazhuppe_decode(text, over, list, over), JAZHUPPE_TOO_MUCH, 0));
     munmap(text, over);
@@ -75,11 +61,9 @@ static void test_long_lists(void)
 static void test_piece(void)
 {
     uint64_t *scan = open_scan("a");
-    const uint8_t *piece = lazy(over, PROT_NONE);
+    const uint8_t *piece = untouchable_memory(over);
     uint32_t *ends = lend(&list_room, NINE * sizeof *ends);
 
-    if (piece == NULL)
-        return;
     CHECK(answers(jazhuppe_feed(scan, WORDS, piece, over, ends, NINE), JAZHUPPE_TOO_MUCH, 0));
     CHECK(answers(jazhuppe_feed(scan, WORDS, piece, most, ends, NINE - 1), JAZHUPPE_TOO_SHORT, 0));
     CHECK(answers(jazhuppe_feed(scan, WORDS, piece, most, ends, NINE), JAZHUPPE_TOO_SHORT, 0));
@@ -126,14 +110,12 @@ static void test_last_held(void)
 static void test_longest(void)
 {
     size_t list = most + NINE;
-    uint8_t *text = lazy(most, PROT_READ | PROT_WRITE), *last = text == NULL ? NULL : text + most - 3;
-    uint32_t *places = lazy(list * sizeof *places, PROT_READ | PROT_WRITE);
+    uint8_t *text = lazy_memory(most);
+    uint32_t *places = lazy_memory(list * sizeof *places);
     uint64_t *scan = open_scan("A[0-9]+");
     jazhuppe_answer a;
 
-    if (text == NULL || places == NULL)
-        return;
-    memcpy(last, "A12", 3);
+    memcpy(text + most - 3, "A12", 3);
     a = jazhuppe_search((const uint8_t *)"A[0-9]+", 7, 0, text, most, places, most);
     CHECK(a.number == 0 && a.count == 1 && places[0] == most - 3);
     a = jazhuppe_feed(scan, WORDS, text, most, places, list);

@@ -57,9 +57,9 @@ static size_t page(void)
     return (size_t)sysconf(_SC_PAGESIZE);
 }
 
-static void *mapped(size_t bytes)
+static void *mapped(size_t bytes, int protection)
 {
-    void *memory = mmap(NULL, bytes, PROT_READ | PROT_WRITE, MAP_PRIVATE | MAP_ANONYMOUS, -1, 0);
+    void *memory = mmap(NULL, bytes, protection, MAP_PRIVATE | MAP_ANONYMOUS | MAP_NORESERVE, -1, 0);
 
     if (memory == MAP_FAILED) {
         perror("mmap");
@@ -68,10 +68,20 @@ static void *mapped(size_t bytes)
     return memory;
 }
 
+void *lazy_memory(size_t bytes)
+{
+    return mapped(bytes, PROT_READ | PROT_WRITE);
+}
+
+void *untouchable_memory(size_t bytes)
+{
+    return mapped(bytes, PROT_NONE);
+}
+
 lent lent_room(size_t most)
 {
     size_t size = (most + page()) / page() * page();
-    uint8_t *memory = mapped(size + 2 * page());
+    uint8_t *memory = lazy_memory(size + 2 * page());
     lent room;
 
     memset(&room, 0, sizeof room);

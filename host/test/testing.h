@@ -19,6 +19,10 @@ void about(const char *format, ...);
 void check(bool holds, const char *what, const char *file, int line);
 #define CHECK(holds) check((holds), #holds, __FILE__, __LINE__)
 
+/* Memory that takes none until it is written; or that nobody may touch. */
+void *lazy_memory(size_t bytes);
+void *untouchable_memory(size_t bytes);
+
 /* A room for one lent slice at a time. The pages before and after it may be neither read nor written. */
 typedef struct {
     uint8_t *first, *end;
