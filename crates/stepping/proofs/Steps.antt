@@ -13,13 +13,13 @@ use Rattle.stepping.specs.declared.Masks.{Masks}
 use Rattle.stepping.specs.Stepping.{stepN}
 
 -- nothing is optional: the step is the move
-pub step-none : (m : Masks) (d b x : ℕ) → m .optional ≡ 0 → x ≡ move 64 d b (bitAnd b (m .repeats)) 1 → x ≡ stepN m d b
+pub step-none : (m : Masks) (k d b x : ℕ) → m .optional ≡ 0 → x ≡ move 64 d b (bitAnd b (m .repeats)) k → x ≡ stepN m k d b
 unfolding stepN advance
-step-none m d b x z e = e ∙ sym (flood-none 64 _ (blockStarts 64 0) (blockEnds 64 0)) ∙ rw z
+step-none m k d b x z e = e ∙ sym (flood-none 64 _ (blockStarts 64 0) (blockEnds 64 0)) ∙ rw z
 
 -- the moved state touches nothing
 pub step-still : (m : Masks) (d b x i : ℕ) → b < 2 ^ 64 → m .optional < 2 ^ 64 → i ≡ blockStarts 64 (m .optional) → x ≡ move 64 d b (bitAnd b (m .repeats)) 1
-    → bitAnd x (bitOr (m .optional) i) ≡ 0 → x ≡ stepN m d b
+    → bitAnd x (bitOr (m .optional) i) ≡ 0 → x ≡ stepN m 1 d b
 unfolding stepN advance
 step-still m d b x i hb ha ei e z =
     let q : bitAnd (move 64 d b (bitAnd b (m .repeats)) 1) (bitOr (m .optional) (blockStarts 64 (m .optional))) ≡ 0 = rw (← e, ← ei) z in
@@ -28,20 +28,20 @@ step-still m d b x i hb ha ei e z =
 
 -- it touches, and is flooded
 pub step-flood : (m : Masks) (d b x i f r : ℕ) → i ≡ blockStarts 64 (m .optional) → f ≡ blockEnds 64 (m .optional) → x ≡ move 64 d b (bitAnd b (m .repeats)) 1
-    → r ≡ flood 64 x (m .optional) i f → r ≡ stepN m d b
+    → r ≡ flood 64 x (m .optional) i f → r ≡ stepN m 1 d b
 unfolding stepN advance
 step-flood m d b x i f r ei ef e er = er ∙ rw (e, ei, ef)
 
 -- the opening state stays at a byte whose entry has none of its follow-up
 pub stays : (m : Masks) (home next b : ℕ) → home ≡ opening 64 (m .optional) → next ≡ bitOr (home * 2 % 2 ^ 64) (bitAnd home (m .repeats))
-    → bitAnd b next ≡ 0 → stepN m home b ≡ home
+    → bitAnd b next ≡ 0 → stepN m 1 home b ≡ home
 unfolding stepN advance opening
 stays m home next b eh en z =
     let q : move 64 home b (bitAnd b (m .repeats)) 1 ≡ 1 = move-none home b (m .repeats) (rw (← en) z) in
     rw q (sym eh)
 
 -- every step leaves an odd state
-pub step-odd : (m : Masks) (d b x : ℕ) → x ≡ stepN m d b → x % 2 ≡ 1
+pub step-odd : (m : Masks) (d b x : ℕ) → x ≡ stepN m 1 d b → x % 2 ≡ 1
 unfolding stepN advance flood
 step-odd m d b x e =
     let v : ℕ = move 64 d b (bitAnd b (m .repeats)) 1 in

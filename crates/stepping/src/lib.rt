@@ -33,13 +33,18 @@ pub struct Spot {
     pub i: usize,
 }
 
-// One byte's step, at its table entry.
-fn step(d: u64, b: u64, m: Masks) -> u64
-    ensures { λ r. ⌜ r ≡ stepN m d b ⌝ }
+// One byte's step, at its table entry; k is what every step sets. Where nothing is optional there is
+// nothing to flood.
+pub fn step(d: u64, b: u64, k: u64, m: Masks) -> u64
+    ensures { λ r. ⌜ r ≡ stepN m k d b ⌝ }
 {
+    let s = b & m.repeats;
+    if m.optional == 0 {
+        return words::move_up(d, b, s, k);
+    }
     let i = words::block_starts(m.optional);
     let f = words::block_ends(m.optional);
-    words::advance(d, b, b & m.repeats, 1, m.optional, i, f)
+    words::advance(d, b, s, k, m.optional, i, f)
 }
 
 // The move of an odd state. Its bit 0 is kept by the 1 beside `repeats`, which does not wait for d:
@@ -55,7 +60,7 @@ fn move_odd(d: u64, b: u64, repeats: u64) -> u64
 fn step_plain(d: u64, b: u64, m: Masks) -> u64
     requires { ⌜ m .optional ≡ 0 ⌝ }
     requires { ⌜ d % 2 ≡ 1 ⌝ }
-    ensures { λ r. ⌜ r ≡ stepN m d b ⌝ }
+    ensures { λ r. ⌜ r ≡ stepN m 1 d b ⌝ }
 {
     move_odd(d, b, m.repeats)
 }
@@ -65,7 +70,7 @@ fn step_plain(d: u64, b: u64, m: Masks) -> u64
 fn step_over(d: u64, b: u64, m: Masks, i: u64, f: u64) -> u64
     requires { ⌜ (i ≡ Step.blockStarts 64 (m .optional)) × (f ≡ Step.blockEnds 64 (m .optional)) ⌝ }
     requires { ⌜ d % 2 ≡ 1 ⌝ }
-    ensures { λ r. ⌜ r ≡ stepN m d b ⌝ }
+    ensures { λ r. ⌜ r ≡ stepN m 1 d b ⌝ }
 {
     let x = move_odd(d, b, m.repeats);
     if x & (m.optional | i) == 0 {
@@ -182,7 +187,7 @@ fn walk_one(table: &[u64], m: Masks, text: &[u8], ends: &mut [u32], s: Spot) -> 
     let i = s.i;
     let n = s.n;
     let c = looks::index(text[i]);
-    let d = step(s.d, table[c], m);
+    let d = step(s.d, table[c], 1, m);
     let at = s.at + 1;
     let past = i + 1;
     let is_end = words::reports(d, m.top);

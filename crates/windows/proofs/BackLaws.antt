@@ -9,7 +9,8 @@ use lib.ListN.{length, getD, set, length-set, length-append}
 use lib.Seq.{sets, set-comm}
 use Rattle.words.specs.ForwardStep.{opening, topBit}
 use Rattle.stepping.specs.declared.Masks.{Masks}
-use Rattle.windows.specs.Reading.{stepN, lastIf, stepAt, backN, startsBack, CountIs, WriteFine, WroteIs}
+use Rattle.stepping.specs.Stepping.{stepN}
+use Rattle.windows.specs.Reading.{lastIf, stepAt, backN, startsBack, CountIs, WriteFine, WroteIs}
 
 -- a store after a run of stores is a store before them
 sets-last : (l : List ℕ) (i : ℕ) (xs : List ℕ) (v : ℕ) → sets l i (xs ++ (v ∷ [])) ≡ sets (set l (i + length xs) v) i xs

@@ -9,7 +9,8 @@ use lib.Dec.{eqb}
 use borrow.Author.Tests.{eq-eqb, ne-eqb}
 use Rattle.words.specs.ForwardStep.{topBit}
 use Rattle.stepping.specs.declared.Masks.{Masks}
-use Rattle.windows.specs.Reading.{stepN, every, stepAt, seenN, Window, SeenIs}
+use Rattle.stepping.specs.Stepping.{stepN}
+use Rattle.windows.specs.Reading.{every, stepAt, seenN, Window, SeenIs}
 
 -- the invariant: bytes j .. 1 are still to be read, and then byte 0
 pub record Looking (t : List ℕ) (m : Masks) (size : ℕ) (text : List ℕ) (w d last j : ℕ) : Type 0 where
