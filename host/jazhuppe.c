@@ -155,6 +155,8 @@ static void point_at(const rule *r, size_t place)
 
     while (from > 0 && !begins_character(r->bytes[from]))
         from--;
+    while (to < r->length && !begins_character(r->bytes[to]))
+        to++;
     fputs("  ", stderr);
     for (size_t i = from; i < to; i++) {
         print_rule_byte(r->bytes[i]);
