@@ -1,0 +1,2 @@
+-- What a part of the program promises.
+pub mod Places
