@@ -1,55 +1,14 @@
 // The lister over document 01's marked cases and edges: each case's title, then what it prints. A line
 // of standard input is a title, a tab and an input, in which a tab stands for a newline and `@`, a
 // number and a byte for so many of the byte.
-ghost use Prim.Native.Nat.{_<_, _≤_};
+ghost use Prim.Native.Nat.{_<_};
 ghost use lib.ListN.{length};
-ghost use Rattle.lister_cases.specs.Places.{Between};
 use listing::Taken;
 
 // What was taken, and where the line goes on.
 struct Step {
     taken: Taken,
     next: usize,
-}
-
-struct Number {
-    value: usize,
-    next: usize,
-}
-
-// The digits from a place on, up to a value that is enough for any case.
-fn number_at(line: &[u8], from: usize) -> Number
-    ensures { λ r. ⌜ from ≤ r .next ⌝ }
-{
-    let mut value = 0;
-    let mut i = from;
-    while i < line.len() {
-        let c = line[i];
-        if c < b'0' {
-            return Number {
-                value: value,
-                next: i,
-            };
-        }
-        if c > b'9' {
-            return Number {
-                value: value,
-                next: i,
-            };
-        }
-        if value > 99_999 {
-            return Number {
-                value: value,
-                next: i,
-            };
-        }
-        value = value * 10 + (c - b'0') as usize;
-        i += 1;
-    }
-    Number {
-        value: value,
-        next: i,
-    }
 }
 
 fn take_times(before: Taken, c: u8, times: usize, rule: &mut [u8], plan: &mut [u8]) -> Taken {
@@ -80,7 +39,7 @@ fn take_item(taken: Taken, line: &[u8], i: usize, rule: &mut [u8], plan: &mut [u
             next: i + 1,
         };
     }
-    let n = number_at(line, i + 1);
+    let n = lines::number_at(line, i + 1);
     let at = n.next;
     if at >= line.len() {
         return Step {
@@ -115,23 +74,8 @@ fn case(title: &[u8], line: &[u8]) {
     listing::list(taken, &rule, &plan);
 }
 
-// Where a byte stands first from a place on, or the end.
-fn place_of(s: &[u8], from: usize, c: u8) -> usize
-    requires { ⌜ from ≤ length (now s) ⌝ }
-    ensures { λ r. ⌜ Between from r (length (now (s .entry))) ⌝ }
-{
-    let mut i = from;
-    while i < s.len() {
-        if s[i] == c {
-            return i;
-        }
-        i += 1;
-    }
-    i
-}
-
 fn line_case(s: &[u8]) {
-    let t = place_of(s, 0, b'\t');
+    let t = lines::place_of(s, 0, b'\t');
     if t < s.len() {
         case(&s[0..t], &s[t + 1..]);
     }
@@ -140,7 +84,7 @@ fn line_case(s: &[u8]) {
 fn line_cases(s: &[u8]) {
     let mut i = 0;
     while i < s.len() {
-        let e = place_of(s, i, b'\n');
+        let e = lines::place_of(s, i, b'\n');
         line_case(&s[i..e]);
         i = e + 1;
     }

@@ -10,12 +10,9 @@ ghost use Prim.Native.Nat.{_<_, _≤_};
 ghost use lib.ListN.{length};
 ghost use Rattle.naive.specs.Shifts.{IsShift};
 
-pub mod forms;
-pub mod positions;
-pub mod rule_text;
 pub mod shares;
 
-use rule_text::Rule;
+use naive_rules::Rule;
 use shares::PLACES;
 
 // More bytes than a text, or all the pieces, may have.
@@ -63,7 +60,7 @@ pub fn decode(raw: &[u8], out: &mut [u8]) -> Answer {
     if number != 0 {
         return refused(number, 0);
     }
-    reported(forms::decode(raw, out), 0)
+    reported(naive_references::decode(raw, out), 0)
 }
 
 // Puts a number into a list; how many stand there then.
@@ -95,13 +92,13 @@ pub struct Called {
 // "Its text is what P, without its held tail as long as it has not finished, decodes to."
 fn text_of(p: &[u8], finished: bool, text: &mut [u8]) -> usize {
     if finished {
-        return forms::decode(p, text);
+        return naive_references::decode(p, text);
     }
-    let held = forms::held(p);
+    let held = naive_references::held(p);
     if held > p.len() {
         return 0;
     }
-    forms::decode(&p[0..p.len() - held], text)
+    naive_references::decode(&p[0..p.len() - held], text)
 }
 
 // "A call is refused by 12 if it has finished, else by 10 if P and the piece together are over the

@@ -1,4 +1,4 @@
--- `naive::shares/first_marked` is safe, and keeps what its contract promises. Assumes nothing.
+-- `naive::shares::first_marked` is safe, and keeps what its contract promises. Assumes nothing.
 use Prim.Native.Nat.{_-_}
 use lib.ListN.{length}
 use borrow.Author.Needs.{needs}

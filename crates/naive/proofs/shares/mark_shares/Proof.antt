@@ -1,4 +1,4 @@
--- `naive::shares/mark_shares` is safe, and keeps what its contract promises. Assumes nothing.
+-- `naive::shares::mark_shares` is safe, and keeps what its contract promises. Assumes nothing.
 use mathlib.Core.Path.{_≡_}
 use Prim.Native.Nat.{_-_}
 use lib.ListN.{length}
