@@ -1,0 +1,334 @@
+// Each call of the finder next to that of `naive`, with what they were lent.
+ghost use Prim.Native.Nat.{_≤_};
+use super::report;
+use naive::Called;
+use naive::Plain;
+use naive_rules::Rule;
+use references::Answer;
+
+// Entries of the lists and buffers that the calls are lent parts of.
+pub const LIST: usize = 512;
+
+// What each entry is set to before a call, to see which of them it writes.
+const MARK: u32 = 4_294_967_295;
+
+const MARK_BYTE: u8 = 165;
+
+const MARK_WORD: u64 = 7;
+
+pub fn at_most(n: usize, most: usize) -> usize
+    ensures { λ r. ⌜ r ≤ most ⌝ }
+{
+    if n < most {
+        return n;
+    }
+    most
+}
+
+fn same_bytes(a: &[u8], b: &[u8]) -> bool {
+    if a.len() != b.len() {
+        return false;
+    }
+    let mut i = 0;
+    while i < a.len() {
+        if a[i] != b[i] {
+            return false;
+        }
+        i += 1;
+    }
+    true
+}
+
+fn same_list(a: &[u32], b: &[u32]) -> bool {
+    if a.len() != b.len() {
+        return false;
+    }
+    let mut i = 0;
+    while i < a.len() {
+        if a[i] != b[i] {
+            return false;
+        }
+        i += 1;
+    }
+    true
+}
+
+fn same_words(a: &[u64], b: &[u64]) -> bool {
+    if a.len() != b.len() {
+        return false;
+    }
+    let mut i = 0;
+    while i < a.len() {
+        if a[i] != b[i] {
+            return false;
+        }
+        i += 1;
+    }
+    true
+}
+
+fn same_answer(a: Answer, b: naive::Answer) -> bool {
+    a.number == b.number
+        && a.place as usize == b.place
+        && a.count as usize == b.count
+        && a.windows as usize == b.windows
+}
+
+// ---- rules
+
+fn same_rule(number: u32, place: u32, positions: u32, shortest: u32, r: Rule) -> bool {
+    number == r.number
+        && place as usize == r.place
+        && positions as usize == r.positions
+        && shortest as usize == r.shortest
+}
+
+pub fn prepares(rule: &[u8], fold: u32, r: Rule) -> bool {
+    let p = rules::prepare(rule, fold);
+    same_rule(p.number, p.place, p.positions, p.shortest, r)
+}
+
+// An opening, which writes its slice only if it is not refused.
+fn opens_to(rule: &[u8], fold: u32, scan: &mut [u64], before: &[u64], r: Rule) -> bool {
+    let o = scan::open(rule, fold, scan);
+    same_rule(o.number, o.place, o.positions, o.shortest, r)
+        && (o.number == 0 || same_words(scan, before))
+}
+
+pub fn opens(rule: &[u8], fold: u32, r: Rule) -> bool {
+    let mut scan = [MARK_WORD; scan_values::LENGTH];
+    let before = [MARK_WORD; scan_values::LENGTH];
+    opens_to(rule, fold, &mut scan, &before, r)
+}
+
+// What an opening with a slice of another length answers: 11, but a refused rule comes first.
+fn other_length(r: Rule) -> Rule {
+    if r.number != 0 {
+        return r;
+    }
+    Rule {
+        number: 11,
+        place: 0,
+        positions: 0,
+        shortest: 0,
+    }
+}
+
+pub fn opens_other_length(rule: &[u8], fold: u32, r: Rule) -> bool {
+    let mut short = [MARK_WORD; 272];
+    let mut long = [MARK_WORD; 274];
+    let before_short = [MARK_WORD; 272];
+    let before_long = [MARK_WORD; 274];
+    opens_to(rule, fold, &mut short, &before_short, other_length(r))
+        && opens_to(rule, fold, &mut long, &before_long, other_length(r))
+}
+
+// ---- whole texts
+
+fn decode_both(raw: &[u8], ours: &mut [u8], theirs: &mut [u8], tally: &mut [u64]) -> bool {
+    let a = references::decode(raw, ours);
+    let b = naive::decode(raw, theirs);
+    report::count_call(tally, b.number);
+    same_answer(a, b) && same_bytes(ours, theirs)
+}
+
+// With a buffer of n bytes.
+pub fn decodes(raw: &[u8], n: usize, tally: &mut [u64]) -> bool {
+    let m = at_most(n, LIST);
+    let mut ours = [MARK_BYTE; LIST];
+    let mut theirs = [MARK_BYTE; LIST];
+    decode_both(raw, &mut ours[0..m], &mut theirs[0..m], tally)
+}
+
+fn search_both(
+    rule: &[u8],
+    fold: u32,
+    r: Rule,
+    table: &[bool],
+    text: &[u8],
+    ours: &mut [u32],
+    theirs: &mut [u32],
+    tally: &mut [u64],
+) -> bool {
+    let a = finder::search(rule, fold, text, ours);
+    let b = naive::search(r, table, text, theirs);
+    report::count_call(tally, b.number);
+    report::add(tally, report::STARTS, b.count);
+    report::add(tally, report::WINDOWS, b.windows);
+    same_answer(a, b) && same_list(ours, theirs)
+}
+
+// With a list of n entries.
+pub fn searches(
+    rule: &[u8],
+    fold: u32,
+    r: Rule,
+    table: &[bool],
+    text: &[u8],
+    n: usize,
+    tally: &mut [u64],
+) -> bool {
+    let m = at_most(n, LIST);
+    let mut ours = [MARK; LIST];
+    let mut theirs = [MARK; LIST];
+    search_both(
+        rule,
+        fold,
+        r,
+        table,
+        text,
+        &mut ours[0..m],
+        &mut theirs[0..m],
+        tally,
+    )
+}
+
+// ---- scans
+
+// Whether a scan call did the same, and the plain scan after it.
+pub struct Compared {
+    pub same: bool,
+    pub plain: Plain,
+}
+
+// A refused call leaves the scan value as it was.
+fn compare_scan_call(
+    a: Answer,
+    c: Called,
+    scan: &[u64],
+    before: &[u64; scan_values::LENGTH],
+    ours: &[u32],
+    theirs: &[u32],
+    tally: &mut [u64],
+) -> Compared {
+    let b = c.answer;
+    let plain = c.plain;
+    report::count_call(tally, b.number);
+    report::add(tally, report::ENDS, b.count);
+    let scan_is = a.number == 0 || same_words(scan, before);
+    Compared {
+        same: same_answer(a, b) && same_list(ours, theirs) && scan_is,
+        plain: plain,
+    }
+}
+
+pub fn copy_of(scan: &[u64]) -> [u64; scan_values::LENGTH] {
+    let mut copied = [0u64; scan_values::LENGTH];
+    let mut i = 0;
+    while i < scan.len() {
+        if i >= scan_values::LENGTH {
+            return copied;
+        }
+        copied[i] = scan[i];
+        i += 1;
+    }
+    copied
+}
+
+fn feed_both(
+    scan: &mut [u64],
+    r: Rule,
+    table: &[bool],
+    plain: Plain,
+    kept: &mut [u8],
+    piece: &[u8],
+    ours: &mut [u32],
+    theirs: &mut [u32],
+    tally: &mut [u64],
+) -> Compared {
+    let before = copy_of(scan);
+    let a = scan::feed(scan, piece, ours);
+    let c = naive::feed(r, table, plain, kept, piece, theirs);
+    compare_scan_call(a, c, scan, &before, ours, theirs, tally)
+}
+
+// With a list of n entries.
+pub fn feeds(
+    scan: &mut [u64],
+    r: Rule,
+    table: &[bool],
+    plain: Plain,
+    kept: &mut [u8],
+    piece: &[u8],
+    n: usize,
+    tally: &mut [u64],
+) -> Compared {
+    let m = at_most(n, LIST);
+    let mut ours = [MARK; LIST];
+    let mut theirs = [MARK; LIST];
+    feed_both(
+        scan,
+        r,
+        table,
+        plain,
+        kept,
+        piece,
+        &mut ours[0..m],
+        &mut theirs[0..m],
+        tally,
+    )
+}
+
+fn finish_both(
+    scan: &mut [u64],
+    r: Rule,
+    table: &[bool],
+    plain: Plain,
+    kept: &[u8],
+    ours: &mut [u32],
+    theirs: &mut [u32],
+    tally: &mut [u64],
+) -> Compared {
+    let before = copy_of(scan);
+    let a = scan::finish(scan, ours);
+    let c = naive::finish(r, table, plain, kept, theirs);
+    compare_scan_call(a, c, scan, &before, ours, theirs, tally)
+}
+
+// With a list of n entries.
+pub fn finishes(
+    scan: &mut [u64],
+    r: Rule,
+    table: &[bool],
+    plain: Plain,
+    kept: &[u8],
+    n: usize,
+    tally: &mut [u64],
+) -> Compared {
+    let m = at_most(n, LIST);
+    let mut ours = [MARK; LIST];
+    let mut theirs = [MARK; LIST];
+    finish_both(
+        scan,
+        r,
+        table,
+        plain,
+        kept,
+        &mut ours[0..m],
+        &mut theirs[0..m],
+        tally,
+    )
+}
+
+fn is_eleven(a: Answer, list: &[u32]) -> bool {
+    let eleven = naive::Answer {
+        number: 11,
+        place: 0,
+        count: 0,
+        windows: 0,
+    };
+    let before = [MARK; 9];
+    same_answer(a, eleven) && same_list(list, &before)
+}
+
+// A feed and a finish of a scan value of zeros, which has no position.
+pub fn refuses_zeros(piece: &[u8], tally: &mut [u64]) -> bool {
+    let mut scan = [0u64; scan_values::LENGTH];
+    let before = [0u64; scan_values::LENGTH];
+    let mut list = [MARK; 9];
+    let fed = scan::feed(&mut scan, piece, &mut list);
+    let finished = scan::finish(&mut scan, &mut list);
+    report::count_call(tally, 11);
+    report::count_call(tally, 11);
+    is_eleven(fed, &list) && is_eleven(finished, &list) && same_words(&scan, &before)
+}

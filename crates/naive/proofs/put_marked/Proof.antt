@@ -1,0 +1,52 @@
+-- `naive::put_marked` is safe, and keeps what its contract promises. Assumes nothing.
+use mathlib.Core.Path.{_≡_}
+use Prim.Native.Nat.{_-_}
+use lib.ListN.{length}
+use borrow.Author.Needs.{needs}
+use Rattle.naive.proofs.put_marked.Statement.{statement}
+use Rattle.naive.proofs.put_marked.Tie as tie
+
+abbrev Inv-loop : tie.InvT-loop
+Inv-loop places old list₀ count₀ p₀ list count p = (length list ≡ length list₀)
+
+abbrev μ-loop : tie.MeasureT-loop
+μ-loop places old list₀ count₀ p₀ list count p = length places - p
+
+loop-holds : tie.Need-loop-holds Inv-loop μ-loop
+loop-holds c = search needs
+
+shared-slice-read-if1 : tie.Need-shared-slice-read-if1 Inv-loop μ-loop
+shared-slice-read-if1 c = search needs
+
+put-if-requires : tie.Need-put-if-requires Inv-loop μ-loop
+put-if-requires c κs = search needs
+
+add-p : tie.Need-add-p Inv-loop μ-loop
+add-p c = search needs
+
+loop-less : tie.Need-loop-less Inv-loop μ-loop
+loop-less c = search needs
+
+loop-again : tie.Need-loop-again Inv-loop μ-loop
+loop-again c = search needs
+
+same-length : tie.Need-same-length Inv-loop μ-loop
+same-length c = search needs
+
+returns : tie.Need-returns Inv-loop μ-loop
+returns c = search needs
+
+pub put-marked-spec : {M : Type 1} → statement M
+put-marked-spec =
+    tie.close
+    (tie.spec
+    Inv-loop
+    μ-loop
+    loop-holds
+    shared-slice-read-if1
+    put-if-requires
+    add-p
+    loop-less
+    loop-again
+    same-length
+    returns)

@@ -1,0 +1,2 @@
+-- What a part of the crate promises.
+pub mod Shifts
