@@ -30,14 +30,20 @@ stays m home next b eh en z =
     let q : move 64 home b (bitAnd b (m .repeats)) 1 ≡ 1 = move-none home b (m .repeats) (rw (← en) z) in
     rw q (sym eh)
 
--- every step leaves an odd state
-pub step-odd : (m : Masks) (d b x : ℕ) → x ≡ stepN m 1 d b → x % 2 ≡ 1
-unfolding stepN advance flood
+-- an odd state stays odd in the flood, and so every step leaves one
+flood-odd : (w d a i f : ℕ) → bit d 0 ≡ true → bit (flood w d a i f) 0 ≡ true
+unfolding flood
+flood-odd w d a i f e =
+    let g : ℕ = bitAnd a (bitXor ((2 ^ w - 1) - wrapSub w (bitOr d f) i) (bitOr d f)) in
+    or-bit d g 0 ∙ ap (λ (p : Bool). p || bit g 0) e
+
+step-odd : (m : Masks) (d b x : ℕ) → x ≡ stepN m 1 d b → x % 2 ≡ 1
+unfolding stepN advance
 step-odd m d b x e =
     let v : ℕ = move 64 d b (bitAnd b (m .repeats)) 1 in
-    let f : ℕ = bitOr v (blockEnds 64 (m .optional)) in
-    let g : ℕ = bitAnd (m .optional) (bitXor ((2 ^ 64 - 1) - wrapSub 64 f (blockStarts 64 (m .optional))) f) in
-    rw e (bit-odd (bitOr v g) (or-bit v g 0 ∙ ap (λ (p : Bool). p || bit g 0) (move-odd 64 d b (bitAnd b (m .repeats)))))
+    let i = blockStarts 64 (m .optional) in
+    let f = blockEnds 64 (m .optional) in
+    rw e (bit-odd (flood 64 v (m .optional) i f) (flood-odd 64 v (m .optional) i f (move-odd 64 d b (bitAnd b (m .repeats)))))
 
 -- ---- a settled state
 
@@ -125,6 +131,22 @@ settled m q d f of word small even odd e {r} er = record {
     flooded = rw (← of .first, ← of .last) (sym e ∙ eqb-true f d (sym er ∙ t));
   };
 }
+
+-- the opening state is one
+pub home-settled : (m : Masks) (q : Blocks) (d : ℕ) → BlocksOf (m .optional) q → m .optional < 2 ^ 64 → m .optional % 2 ≡ 0 → d ≡ q .home → SettledIs m d true
+unfolding opening
+home-settled m q d of word even e =
+    let a = m .optional in
+    let k : d ≡ flood 64 1 a (blockStarts 64 a) (blockEnds 64 a) = e ∙ of .home in
+    record {
+      says = λ t. record {
+        even = even;
+        word = word;
+        small = rw k (flood-lt 64 1 a (blockStarts 64 a) (blockEnds 64 a) (omega arith) word);
+        odd = rw k (bit-odd (flood 64 1 a (blockStarts 64 a) (blockEnds 64 a)) (flood-odd 64 1 a (blockStarts 64 a) (blockEnds 64 a) (odd-bit 1 (omega arith))));
+        flooded = rw k (flood-again 64 a word (even-bit a even) 1 (omega arith));
+      };
+    }
 
 pub unsettled : (m : Masks) (d : ℕ) → SettledIs m d false
 unsettled m d = record { says = λ t. absurd (no t) }

@@ -73,13 +73,17 @@ fn blocks_of(optional: u64) -> Blocks
     }
 }
 
-// Whether a state is as a step leaves it: odd, and flooded. One made by hand may be neither.
+// Whether a state is as a step leaves it: odd, and flooded, as the opening state is. One made by hand
+// may be neither.
 fn is_settled(m: Masks, q: Blocks, d: u64) -> bool
     requires { ⌜ BlocksOf (m .optional) q ⌝ }
     ensures { λ r. ⌜ SettledIs m d r ⌝ }
 {
     if m.optional % 2 != 0 {
         return false;
+    }
+    if d == q.home {
+        return true;
     }
     if d % 2 != 1 {
         return false;
@@ -261,18 +265,19 @@ fn walk_one(table: &[u64], m: Masks, text: &[u8], ends: &mut [u32], s: Spot) -> 
 fn walk(
     table: &[u64],
     m: Masks,
+    q: Blocks,
     home: u64,
     stop: usize,
     text: &[u8],
     ends: &mut [u32],
     s: Spot,
 ) -> Spot
+    requires { ⌜ BlocksOf (m .optional) q ⌝ }
     requires { ⌜ length (now table) ≡ 256 ⌝ }
     requires { ⌜ m .top < 64 ⌝ }
     requires { ⌜ Room s (now text) (now ends) ⌝ }
     ensures { λ r. ⌜ Walked (now (table .entry)) m (now (text .entry)) (now (ends .entry)) (s .d) (s .at) (s .n) (s .i) r (now (ends .exit)) ⌝ }
 {
-    let q = blocks_of(m.optional);
     if is_settled(m, q, s.d) {
         if q.touch == 0 {
             return walk_plain(table, m, q, home, stop, text, ends, s);
@@ -363,6 +368,7 @@ fn run_by(table: &[u64], m: Masks, p: Plan, d: u64, base: u32, text: &[u8], ends
     requires { ⌜ base + length (now text) < 2 ^ 32 ⌝ }
     ensures { λ r. ⌜ Scanned (now (table .entry)) m d base (now (text .entry)) (now (ends .entry)) r (now (ends .exit)) ⌝ }
 {
+    let q = blocks_of(m.optional);
     let mut d = d;
     let mut at = base;
     let mut n = 0;
@@ -373,16 +379,19 @@ fn run_by(table: &[u64], m: Masks, p: Plan, d: u64, base: u32, text: &[u8], ends
             return Ran { d: d, count: n };
         }
         let stop = stop_at(p.kind, i, j, text.len());
+        let gone = (j - i) as u32;
+        let here = at + gone;
         let r = walk(
             table,
             m,
+            q,
             p.home,
             stop,
             text,
             ends,
             Spot {
                 d: d,
-                at: at + (j - i) as u32,
+                at: here,
                 n: n,
                 i: j,
             },

@@ -1,5 +1,5 @@
 -- `stepping::is_settled` meets its contract. Its laws are in this crate's `proofs/`; `search LAW` finds a law's premises in `c`. Assumes nothing.
-use Rattle.stepping.proofs.Steps.{unsettled, settled}
+use Rattle.stepping.proofs.Steps.{home-settled, settled, unsettled}
 use borrow.Author.Needs.{needs}
 use Rattle.stepping.proofs.is_settled.Statement.{statement}
 use Rattle.stepping.proofs.is_settled.Tie as tie
@@ -11,13 +11,16 @@ returns : tie.Need-returns
 returns c = search unsettled
 
 returns-2 : tie.Need-returns-2
-returns-2 c = search unsettled
+returns-2 c = search home-settled
+
+returns-3 : tie.Need-returns-3
+returns-3 c = search unsettled
 
 flood-requires : tie.Need-flood-requires
 flood-requires c κs = search needs
 
-returns-3 : tie.Need-returns-3
-returns-3 c = search settled
+returns-4 : tie.Need-returns-4
+returns-4 c = search settled
 
 pub is-settled-spec : {M : Type 1} → statement M
-is-settled-spec = tie.close (tie.spec returns returns-2 flood-requires returns-3)
+is-settled-spec = tie.close (tie.spec returns returns-2 returns-3 flood-requires returns-4)

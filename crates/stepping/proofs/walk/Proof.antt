@@ -5,20 +5,16 @@ use Rattle.stepping.proofs.walk.Statement.{statement}
 use Rattle.stepping.proofs.walk.Tie as tie
 use Rattle.stepping.proofs.walk.Reads as reads
 use Rattle.stepping.proofs.walk.Lts as lts
-use Rattle.stepping.proofs.blocks_of.Reads as blocks-of-reads
 use Rattle.stepping.proofs.is_settled.Reads as is-settled-reads
 use Rattle.stepping.proofs.walk_one.Reads as walk-one-reads
 use Rattle.stepping.proofs.walk_over.Reads as walk-over-reads
 use Rattle.stepping.proofs.walk_plain.Reads as walk-plain-reads
 
-blocks-of-requires : tie.Need-blocks-of-requires
-blocks-of-requires c κs = search needs
-
 is-settled-requires : tie.Need-is-settled-requires
 is-settled-requires c κs = search needs
 
 walk-plain-requires : tie.Need-walk-plain-requires
-walk-plain-requires c κs = let s = c .before .before .before .before .before .before .before .before .before in (c .before .before .before .before .before .blocks-of .ensures, (c .before .if2 .taken, (s .pre .0, (s .pre .1 .0, (s .pre .1 .1, settled-by (c .before .before .before .before .is-settled .ensures) (c .before .before .before .if1 .taken))))))
+walk-plain-requires c κs = let s = c .before .before .before .before .before .before .before .before in (s .pre .0, (c .before .if2 .taken, (s .pre .1 .0, (s .pre .1 .1 .0, (s .pre .1 .1 .1, settled-by (c .before .before .before .before .is-settled .ensures) (c .before .before .before .if1 .taken))))))
 
 same-length : tie.Need-same-length
 same-length c = search needs
@@ -27,7 +23,7 @@ returns : tie.Need-returns
 returns c = search needs
 
 walk-over-requires : tie.Need-walk-over-requires
-walk-over-requires c κs = let s = c .before .before .before .before .before .before .before .before .before in (c .before .before .before .before .before .blocks-of .ensures, (s .pre .0, (s .pre .1 .0, (s .pre .1 .1, settled-by (c .before .before .before .before .is-settled .ensures) (c .before .before .before .if1 .taken)))))
+walk-over-requires c κs = let s = c .before .before .before .before .before .before .before .before in (s .pre .0, (s .pre .1 .0, (s .pre .1 .1 .0, (s .pre .1 .1 .1, settled-by (c .before .before .before .before .is-settled .ensures) (c .before .before .before .if1 .taken)))))
 
 same-length-2 : tie.Need-same-length-2
 same-length-2 c = search needs
@@ -48,7 +44,6 @@ pub walk-spec : {M : Type 1} → statement M
 walk-spec =
     tie.close
     (tie.spec
-    blocks-of-requires
     is-settled-requires
     walk-plain-requires
     same-length
