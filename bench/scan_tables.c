@@ -114,12 +114,15 @@ static void own_letter_rows(size_t length)
 static void hostile_table(const texts *t)
 {
     const rule *const starts[] = {&rules[0], &rules[2], &rules[3]};
+    const rule *const bare[] = {&plus_rule, &rules[2], &rules[3]}; /* the same with no & to look at */
     const rule *const near[] = {&rules[1], &rules[2], &rules[4]};
     const rule *const runs[] = {&rules[4]};
     const rule *const stuck[] = {&stuck_rule};
     heading("Scan of hostile texts", "| text | rule | ends | MB/s | to Hyperscan | to the formula, gcc | clang | at least |");
     repeated_rows("`R&` repeated", "R&", t->some, starts, 3);
+    repeated_rows("`R+` repeated", "R+", t->some, bare, 3);
     repeated_rows("`Row A&` repeated", "Row A&", t->some, starts, 3);
+    repeated_rows("`Row A+` repeated", "Row A+", t->some, bare, 3);
     repeated_rows("`Wheelchair bay Nx ` repeated", "Wheelchair bay Nx ", t->some, near, 3);
     own_letter_rows(t->some);
     repeated_rows("`a` repeated", "a", t->some, runs, 1);
