@@ -5,7 +5,8 @@
 #include <stddef.h>
 #include <stdint.h>
 
-enum { PIECE = 4096, LONG_PIECE = 65536 };
+/* A text of CACHED bytes that is read again and again stays in the processor's cache. */
+enum { PIECE = 4096, LONG_PIECE = 65536, CACHED = 1 << 20 };
 
 typedef struct {
     uint8_t *at;
@@ -56,6 +57,7 @@ bytes raw_plan(bytes plan, size_t spacing, size_t length);
 bytes repeated(const char *what, size_t length);
 bytes own_letters(const rule *r, size_t length);
 bytes part(bytes text, size_t length);
+bytes cached_lines(bytes text);
 bytes without_ampersands(bytes text);
 bytes reversed(bytes text);
 

@@ -79,11 +79,9 @@ static void decode_row(const char *of, const char *size, bytes raw, size_t times
 /* The whole plan once, and a plan that stays in the cache as often as makes the same length. */
 static void decode_rows(const char *of, bytes raw, double to_copy, double to_expat)
 {
-    size_t times = raw.length / LONG_PIECE;
+    bytes some = cached_lines(raw);
     decode_row(of, "all", raw, 1, to_copy, to_expat);
-    while (raw.length > LONG_PIECE || (raw.length && raw.at[raw.length - 1] != '\n'))
-        raw.length = raw.length > LONG_PIECE ? LONG_PIECE : raw.length - 1; /* no reference is cut */
-    decode_row(of, "64 KiB", raw, times ? times : 1, to_copy, to_expat);
+    decode_row(of, "1 MiB", some, raw.length / some.length, to_copy, to_expat);
 }
 
 static bytes raw_of(const texts *t, size_t spacing)

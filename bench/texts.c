@@ -155,6 +155,15 @@ bytes part(bytes text, size_t length)
     return p;
 }
 
+/* Up to a line's end, so that no reference is cut. */
+bytes cached_lines(bytes text)
+{
+    bytes p = part(text, CACHED);
+    while (p.length && p.at[p.length - 1] != '\n')
+        p.length--;
+    return p;
+}
+
 bytes without_ampersands(bytes text)
 {
     bytes t = room(text.length);
