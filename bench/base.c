@@ -6,6 +6,7 @@
 
 void die(const char *what, const char *about)
 {
+    fflush(stdout);
     fprintf(stderr, "bench: %s: %s\n", about, what);
     exit(1);
 }
