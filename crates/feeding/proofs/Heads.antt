@@ -27,6 +27,9 @@ nine-held xs = held-length formLimit xs
 
 -- ---- `feed_rest`
 
+pub held-few : (h : Held) → length (take (h .len) (h .bytes)) ≤ h .len
+held-few h = omega (arith, length-take (h .len) (h .bytes))
+
 module _ (t : List ℕ) (m : Masks) (g : State) (piece : List ℕ) (from : ℕ) (ends : List ℕ) where
   pub rest-fed : (r : Rest) (ends′ : List ℕ) → RestIs t m g piece from ends r ends′
       → (blank : List ℕ) (j : Held) → JoinIs (record { bytes = blank; len = 0 }) (midOf (r .kept) (length piece - r .kept) piece) j

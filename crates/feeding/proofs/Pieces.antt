@@ -2,10 +2,10 @@
 use mathlib.Core.Path.{_≡_, refl, sym, ap, subst, _∙_}
 use mathlib.Core.Bool.{true, false, true≢false}
 use mathlib.Core.List.{List, [], _∷_, _++_, append-nil, append-assoc}
-use Prim.Native.Nat.{ℕ, zero, suc, _+_, _-_, _^_, _≤_, _<_}
+use Prim.Native.Nat.{ℕ, suc, _+_, _-_, _^_, _≤_, _<_}
 use native.Mathlib.Numerals.{add-one}
 use native.Mathlib.Omega.{arith}
-use lib.ListN.{length, take, drop, getD, length-append, length-drop, drop-of-length-le, take-append-drop}
+use lib.ListN.{length, take, drop, getD, length-append, length-drop, drop-of-length-le}
 use lib.Seq.{length-sets, sets-eq, drop-cons, drop-drop, length-take-le, take-all, take-append-seam}
 use borrow.Rule.Slice.PartMut.{midOf}
 use Rattle.model.specs.References.{formLimit, none, referenceAt, utf8, canGrow, heldTail, letOut}
@@ -13,9 +13,10 @@ use Rattle.model.proofs.Decoding.{utf8-four}
 use Rattle.references.specs.declared.Reference.{Reference}
 use Rattle.references.specs.declared.Reference.the-variants.{Code, Plain, Open}
 use Rattle.references.specs.Reader.{codeLimit, reading, Moves, ReadIs}
-use Rattle.references.specs.Decoder.{Put, RunIs}
-use Rattle.references.proofs.Cuts.{letOut-run, held-run, letOut-reference, held-reference, letOut-none, held-none, held-open, all-held}
+use Rattle.references.specs.Decoder.{Put}
+use Rattle.references.proofs.Cuts.{letOut-reference, held-reference, letOut-none, held-none, held-open, all-held}
 use Rattle.references.proofs.Readings.{code-told, plain-told, open-told}
+use Rattle.amps.specs.Amps.{Verbatim}
 use Rattle.stepping.specs.declared.Masks.{Masks}
 use Rattle.feeding.specs.declared.State.{State}
 use Rattle.feeding.specs.declared.Next.{Next}
@@ -47,38 +48,22 @@ module _ (t : List ℕ) (m : Masks) (g : State) (piece : List ℕ) (i : ℕ) (en
   part-is : (n : ℕ) → midOf i (i + n - i) piece ≡ take n (drop i piece)
   part-is n = let e : i + n - i ≡ n = omega arith in ap (λ (j : ℕ). take j (drop i piece)) e
 
-  -- a run of plain bytes
-  pub token-run : (getD piece i 0 ≡ 38 → ⊥) → (n : ℕ) → RunIs (midOf i (length piece - i) piece) n → (r : State) (ends′ : List ℕ)
-      → Stepped t m g (midOf i (i + n - i) piece) ends r ends′ → TokenIs t m g piece i ends (record { state = r; read = i + n; held = false }) ends′
+  -- a run of bytes that go out as they came
+  pub token-run : (e : ℕ) → Verbatim piece i e → i < e → (r : State) (ends′ : List ℕ) → Stepped t m g (midOf i (e - i) piece) ends r ends′
+      → TokenIs t m g piece i ends (record { state = r; read = e; held = false }) ends′
   unfolding textOf tailOf
-  token-run z n y r ends′ x =
-      let d = drop i piece in
-      let u : RunIs d n = subst (λ (l : List ℕ). RunIs l n) rest-is y in
-      let f = u .fits in
-      let l : length d ≡ length piece - i = length-drop i piece in
-      let k : length (take n d) ≡ n = length-take-le n d f in
-      let first : getD d 0 0 ≡ getD piece i 0 = ap (λ (l : List ℕ). getD l 0 0) (drop-cons piece i 0 h) in
-      let some : 0 < n = positive n (λ e. z (sym first ∙ subst (λ (j : ℕ). getD d j 0 ≡ 38) e (u .stops (omega arith)))) in
-      let plain = u .plain in
-      record {
-        gives = take n d;
-        steps = subst (λ (b : List ℕ). Stepped t m g b ends r ends′) (part-is n) x;
-        lets-out =
-            ap (letOut formLimit) (sym (take-append-drop n d))
-            ∙ letOut-run formLimit (take n d) (drop n d) plain
-            ∙ ap (λ (b : List ℕ). take n d ++ letOut formLimit b) (drop-drop n i piece);
-        holds = ap (heldTail formLimit) (sym (take-append-drop n d)) ∙ held-run formLimit (take n d) (drop n d) plain ∙ ap (heldTail formLimit) (drop-drop n i piece);
-        fits = omega arith;
-        few = omega arith;
-        moves = λ e. omega arith;
-        all-held = λ e. absurd (true≢false (sym e));
-      }
-    where
-      positive : (n : ℕ) → (n ≡ 0 → ⊥) → 0 < n
-      positive zero f = absurd (f refl)
-      positive (suc n) f = omega arith
+  token-run e v l r ends′ x = record {
+    gives = take (e - i) (drop i piece);
+    steps = x;
+    lets-out = v .lets-out;
+    holds = v .holds;
+    fits = v .fits;
+    few = let f = v .fits in omega (arith, length-take-le (e - i) (drop i piece) (omega (arith, length-drop i piece)));
+    moves = λ e. l;
+    all-held = λ e. absurd (true≢false (sym e));
+  }
 
-  module _ (b : getD piece i 0 ≡ 38) (r : Reference) (x : ReadIs (midOf i (length piece - i) piece) r) where
+  module _ (r : Reference) (x : ReadIs (midOf i (length piece - i) piece) r) where
     read-rest : r ≡ reading formLimit (drop i piece)
     read-rest = x .is ∙ ap (reading formLimit) rest-is
 

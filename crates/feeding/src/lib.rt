@@ -4,9 +4,11 @@ ghost use mathlib.Core.Path.{_≡_};
 ghost use Prim.Native.Nat.{_+_, _<_, _≤_, _^_};
 ghost use lib.ListN.{length};
 ghost use Rattle.model.specs.References.{utf8};
+ghost use Rattle.plans.specs.Plans.{Planned};
 ghost use Rattle.references.specs.Reader.{codeLimit};
 ghost use Rattle.references.specs.Crosses.{HeldFine};
 ghost use Rattle.feeding.specs.Feeding.{Stepped, TokenIs, RestIs, RestFed, FedIs};
+use plans::Plan;
 use references::Across;
 use references::Held;
 use references::Reference;
@@ -19,16 +21,24 @@ pub struct State {
     pub count: usize,
 }
 
-// Steps over `text`, and stores its ends after those stored.
-pub fn through(table: &[u64], masks: Masks, g: State, text: &[u8], ends: &mut [u32]) -> State
+// Steps over `text` by a plan, and stores its ends after those stored.
+fn run_through(
+    table: &[u64],
+    masks: Masks,
+    plan: Plan,
+    g: State,
+    text: &[u8],
+    ends: &mut [u32],
+) -> State
     requires { ⌜ length (now table) ≡ 256 ⌝ }
     requires { ⌜ masks .top < 64 ⌝ }
     requires { ⌜ g .count + length (now text) ≤ length (now ends) ⌝ }
     requires { ⌜ g .at + length (now text) < 2 ^ 32 ⌝ }
+    requires { ⌜ Planned (now table) (masks .repeats) (masks .optional) (masks .top) plan ⌝ }
     ensures { λ r. ⌜ Stepped (now (table .entry)) masks g (now (text .entry)) (now (ends .entry)) r (now (ends .exit)) ⌝ }
 {
     let count = g.count;
-    let r = stepping::run(table, masks, g.d, g.at, text, &mut ends[count..]);
+    let r = stepping::run(table, masks, plan, g.d, g.at, text, &mut ends[count..]);
     let at = g.at + text.len() as u32;
     let stored = count + r.count;
     State {
@@ -38,18 +48,38 @@ pub fn through(table: &[u64], masks: Masks, g: State, text: &[u8], ends: &mut [u
     }
 }
 
+// The same by a plan made for this text alone.
+pub fn through(table: &[u64], masks: Masks, g: State, text: &[u8], ends: &mut [u32]) -> State
+    requires { ⌜ length (now table) ≡ 256 ⌝ }
+    requires { ⌜ masks .top < 64 ⌝ }
+    requires { ⌜ g .count + length (now text) ≤ length (now ends) ⌝ }
+    requires { ⌜ g .at + length (now text) < 2 ^ 32 ⌝ }
+    ensures { λ r. ⌜ Stepped (now (table .entry)) masks g (now (text .entry)) (now (ends .entry)) r (now (ends .exit)) ⌝ }
+{
+    let plan = plans::plan_of(table, masks.repeats, masks.optional, masks.top, text.len());
+    run_through(table, masks, plan, g, text, ends)
+}
+
 // Steps over the UTF-8 bytes of a code point.
-fn code_through(table: &[u64], masks: Masks, g: State, code: u32, ends: &mut [u32]) -> State
+fn code_through(
+    table: &[u64],
+    masks: Masks,
+    plan: Plan,
+    g: State,
+    code: u32,
+    ends: &mut [u32],
+) -> State
     requires { ⌜ length (now table) ≡ 256 ⌝ }
     requires { ⌜ masks .top < 64 ⌝ }
     requires { ⌜ code < codeLimit ⌝ }
     requires { ⌜ g .count + length (utf8 code) ≤ length (now ends) ⌝ }
     requires { ⌜ g .at + length (utf8 code) < 2 ^ 32 ⌝ }
+    requires { ⌜ Planned (now table) (masks .repeats) (masks .optional) (masks .top) plan ⌝ }
     ensures { λ r. ⌜ Stepped (now (table .entry)) masks g (utf8 code) (now (ends .entry)) r (now (ends .exit)) ⌝ }
 {
     let mut t = [0u8; 4];
     let n = references::put_utf8(&mut t, code);
-    through(table, masks, g, &t[..n], ends)
+    run_through(table, masks, plan, g, &t[..n], ends)
 }
 
 // After one token of a piece: the state, how far the piece is read, and whether the rest of it is held
@@ -60,20 +90,28 @@ pub struct Next {
     pub held: bool,
 }
 
-// One token of a piece, with nothing held: a run of plain bytes, a reference, or a `&` that begins
-// none; or all the rest, if it can still grow.
-fn token(table: &[u64], masks: Masks, g: State, piece: &[u8], i: usize, ends: &mut [u32]) -> Next
+// One token of a piece, with nothing held: a run of bytes that go out as they came, a reference, or a
+// `&` that begins none; or all the rest, if it can still grow.
+fn token(
+    table: &[u64],
+    masks: Masks,
+    plan: Plan,
+    g: State,
+    piece: &[u8],
+    i: usize,
+    ends: &mut [u32],
+) -> Next
     requires { ⌜ length (now table) ≡ 256 ⌝ }
     requires { ⌜ masks .top < 64 ⌝ }
     requires { ⌜ i < length (now piece) ⌝ }
     requires { ⌜ g .count + length (now piece) ≤ length (now ends) + i ⌝ }
     requires { ⌜ g .at + length (now piece) < 2 ^ 32 + i ⌝ }
+    requires { ⌜ Planned (now table) (masks .repeats) (masks .optional) (masks .top) plan ⌝ }
     ensures { λ r. ⌜ TokenIs (now (table .entry)) masks g (now (piece .entry)) i (now (ends .entry)) r (now (ends .exit)) ⌝ }
 {
-    if piece[i] != b'&' {
-        let n = references::run_length(&piece[i..]);
-        let e = i + n;
-        let s = through(table, masks, g, &piece[i..e], ends);
+    let e = amps::verbatim(piece, i);
+    if i < e {
+        let s = run_through(table, masks, plan, g, &piece[i..e], ends);
         return Next {
             state: s,
             read: e,
@@ -83,7 +121,7 @@ fn token(table: &[u64], masks: Masks, g: State, piece: &[u8], i: usize, ends: &m
     let found = references::read_reference(&piece[i..]);
     match found {
         Reference::Code(code, k) => {
-            let s = code_through(table, masks, g, code, ends);
+            let s = code_through(table, masks, plan, g, code, ends);
             let after = i + k;
             return Next {
                 state: s,
@@ -92,11 +130,11 @@ fn token(table: &[u64], masks: Masks, g: State, piece: &[u8], i: usize, ends: &m
             };
         }
         Reference::Plain => {
-            let e = i + 1;
-            let s = through(table, masks, g, &piece[i..e], ends);
+            let after = i + 1;
+            let s = run_through(table, masks, plan, g, &piece[i..after], ends);
             return Next {
                 state: s,
-                read: e,
+                read: after,
                 held: false,
             };
         }
@@ -120,6 +158,7 @@ pub struct Rest {
 fn scan_rest(
     table: &[u64],
     masks: Masks,
+    plan: Plan,
     g: State,
     piece: &[u8],
     from: usize,
@@ -130,12 +169,13 @@ fn scan_rest(
     requires { ⌜ from ≤ length (now piece) ⌝ }
     requires { ⌜ g .count + length (now piece) ≤ length (now ends) + from ⌝ }
     requires { ⌜ g .at + length (now piece) < 2 ^ 32 + from ⌝ }
+    requires { ⌜ Planned (now table) (masks .repeats) (masks .optional) (masks .top) plan ⌝ }
     ensures { λ r. ⌜ RestIs (now (table .entry)) masks g (now (piece .entry)) from (now (ends .entry)) r (now (ends .exit)) ⌝ }
 {
     let mut s = g;
     let mut i = from;
     while i < piece.len() {
-        let t = token(table, masks, s, piece, i, ends);
+        let t = token(table, masks, plan, s, piece, i, ends);
         let u = t.state;
         if t.held {
             return Rest {
@@ -159,6 +199,7 @@ pub struct Fed {
 fn feed_rest(
     table: &[u64],
     masks: Masks,
+    plan: Plan,
     g: State,
     piece: &[u8],
     from: usize,
@@ -169,9 +210,10 @@ fn feed_rest(
     requires { ⌜ from ≤ length (now piece) ⌝ }
     requires { ⌜ g .count + length (now piece) ≤ length (now ends) + from ⌝ }
     requires { ⌜ g .at + length (now piece) < 2 ^ 32 + from ⌝ }
+    requires { ⌜ Planned (now table) (masks .repeats) (masks .optional) (masks .top) plan ⌝ }
     ensures { λ r. ⌜ RestFed (now (table .entry)) masks g (now (piece .entry)) from (now (ends .entry)) r (now (ends .exit)) ⌝ }
 {
-    let r = scan_rest(table, masks, g, piece, from, ends);
+    let r = scan_rest(table, masks, plan, g, piece, from, ends);
     let u = r.state;
     let kept = r.kept;
     let none = Held {
@@ -199,18 +241,19 @@ pub fn feed_bytes(
     requires { ⌜ g .at + h .len + length (now piece) < 2 ^ 32 ⌝ }
     ensures { λ r. ⌜ FedIs (now (table .entry)) masks g h (now (piece .entry)) (now (ends .entry)) r (now (ends .exit)) ⌝ }
 {
+    let plan = plans::plan_of(table, masks.repeats, masks.optional, masks.top, piece.len());
     let x = references::cross(h, piece);
     let case = x.case;
     match case {
         Across::Completed(code, taken) => {
-            let s = code_through(table, masks, g, code, ends);
-            return feed_rest(table, masks, s, piece, taken, ends);
+            let s = code_through(table, masks, plan, g, code, ends);
+            return feed_rest(table, masks, plan, s, piece, taken, ends);
         }
         Across::Passed => {
             let b = h.bytes;
             let l = h.len;
-            let s = through(table, masks, g, &b[..l], ends);
-            return feed_rest(table, masks, s, piece, 0, ends);
+            let s = run_through(table, masks, plan, g, &b[..l], ends);
+            return feed_rest(table, masks, plan, s, piece, 0, ends);
         }
         Across::Growing => {
             let j = x.joined;

@@ -32,12 +32,12 @@ pub record Put (out : List ℕ) (code r : ℕ) (out′ : List ℕ) : Type 0 wher
 pub record Looked (s : List ℕ) (i k : ℕ) (r : Bool) : Type 0 where
   pub none : r ≡ false → T (all notAmp (take k (drop i s)))
 
--- so many bytes, none of them `&`: `skim` ..
+-- so many bytes, none of them `&` ..
 pub record PlainIs (s : List ℕ) (r : ℕ) : Type 0 where
   pub fits : r ≤ length s
   pub plain : T (all notAmp (take r s))
 
--- .. and then a `&` or the end: `run_length`
+-- .. and then a `&` or the end
 pub record RunIs (s : List ℕ) (r : ℕ) : Type 0 where
   pub fits : r ≤ length s
   pub plain : T (all notAmp (take r s))

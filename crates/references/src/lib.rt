@@ -8,7 +8,7 @@ ghost use lib.Seq.{sets};
 ghost use Rattle.model.specs.Ascii.{byteOf};
 ghost use Rattle.model.specs.References.{formLimit, heldMost, isChar, legal};
 ghost use Rattle.references.specs.Reader.{codeLimit, Compared, DigitIs, GrownIs, baseOf, readAs, numberReading, NamePlace, NumberPlace, ReadIs};
-ghost use Rattle.references.specs.Decoder.{PutFine, Put, Looked, PlainIs, RunIs, Copied, RunCopied, TokenIs, Decoded, DecodeIs};
+ghost use Rattle.references.specs.Decoder.{PutFine, Put, Looked, Copied, RunCopied, TokenIs, Decoded, DecodeIs};
 ghost use Rattle.references.specs.Crosses.{HeldFine, JoinIs, CrossIs};
 
 // "at most 10 bytes from `&` to `;`"
@@ -293,34 +293,6 @@ fn any_amp(s: &[u8], i: usize) -> bool
         j += 1;
     }
     z
-}
-
-// How many bytes stand before the first block of 32 that has a `&`, or before the last, shorter one.
-fn skim(s: &[u8]) -> usize
-    ensures { λ r. ⌜ PlainIs (now (s .entry)) r ⌝ }
-{
-    let mut i = 0;
-    while 32 <= s.len() - i {
-        if any_amp(s, i) {
-            return i;
-        }
-        i += 32;
-    }
-    i
-}
-
-// How many bytes stand before the first `&`, or in all.
-pub fn run_length(s: &[u8]) -> usize
-    ensures { λ r. ⌜ RunIs (now (s .entry)) r ⌝ }
-{
-    let mut i = skim(s);
-    while i < s.len() {
-        if s[i] == b'&' {
-            return i;
-        }
-        i += 1;
-    }
-    i
 }
 
 // The 32 bytes from i on.

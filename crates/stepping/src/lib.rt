@@ -359,8 +359,17 @@ fn stop_at(kind: u64, i: usize, j: usize, end: usize) -> usize
     j + PASSES_PAY
 }
 
-// Runs by a plan: passes over what may be passed, and walks on from there.
-fn run_by(table: &[u64], m: Masks, p: Plan, d: u64, base: u32, text: &[u8], ends: &mut [u32]) -> Ran
+// Steps over `text` and stores each end in `ends`, from its front; `base` bytes went before. It passes
+// over what may be passed by the plan, and walks on from there.
+pub fn run(
+    table: &[u64],
+    m: Masks,
+    p: Plan,
+    d: u64,
+    base: u32,
+    text: &[u8],
+    ends: &mut [u32],
+) -> Ran
     requires { ⌜ length (now table) ≡ 256 ⌝ }
     requires { ⌜ m .top < 64 ⌝ }
     requires { ⌜ Planned (now table) (m .repeats) (m .optional) (m .top) p ⌝ }
@@ -402,16 +411,4 @@ fn run_by(table: &[u64], m: Masks, p: Plan, d: u64, base: u32, text: &[u8], ends
         i = r.i;
     }
     Ran { d: d, count: n }
-}
-
-// Steps over `text` and stores each end in `ends`, from its front. `base` bytes went before.
-pub fn run(table: &[u64], masks: Masks, d: u64, base: u32, text: &[u8], ends: &mut [u32]) -> Ran
-    requires { ⌜ length (now table) ≡ 256 ⌝ }
-    requires { ⌜ masks .top < 64 ⌝ }
-    requires { ⌜ length (now text) ≤ length (now ends) ⌝ }
-    requires { ⌜ base + length (now text) < 2 ^ 32 ⌝ }
-    ensures { λ r. ⌜ Scanned (now (table .entry)) masks d base (now (text .entry)) (now (ends .entry)) r (now (ends .exit)) ⌝ }
-{
-    let p = plans::plan_of(table, masks.repeats, masks.optional, masks.top, text.len());
-    run_by(table, masks, p, d, base, text, ends)
 }

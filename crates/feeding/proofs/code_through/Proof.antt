@@ -9,7 +9,7 @@ use Rattle.feeding.proofs.code_through.Statement.{statement}
 use Rattle.feeding.proofs.code_through.Tie as tie
 use Rattle.feeding.proofs.code_through.Reads as reads
 use Rattle.feeding.proofs.code_through.Lts as lts
-use Rattle.feeding.proofs.through.Reads as through-reads
+use Rattle.feeding.proofs.run_through.Reads as run-through-reads
 use Rattle.references.proofs.put_utf8.Reads as put-utf8-reads
 
 slice-aggregate-put-utf8 : tie.Need-slice-aggregate-put-utf8
@@ -24,17 +24,17 @@ array-share-prefix-t c =
     let q = code-long (s .args .code) _ _ _ refl (c .before .put-utf8 .ensures) in
     omega arith
 
-slice-aggregate-through : tie.Need-slice-aggregate-through
-slice-aggregate-through c =
+slice-aggregate-run-through : tie.Need-slice-aggregate-run-through
+slice-aggregate-run-through c =
     let s = c .before .before .before .before .before .before in
     let q = code-long (s .args .code) _ _ _ refl (c .before .before .put-utf8 .ensures) in
     simp length-take (omega arith)
 
-through-requires : tie.Need-through-requires
-through-requires c κs =
+run-through-requires : tie.Need-run-through-requires
+run-through-requires c κs =
     let s = c .before .before .before .before .before .before .before in
     let q = code-bytes (s .args .code) _ _ _ refl (c .before .before .before .put-utf8 .ensures) in
-    (search needs, (search needs, (omega (arith, ap length q), omega (arith, ap length q))))
+    (search needs, (search needs, (omega (arith, ap length q), (omega (arith, ap length q), search needs))))
 
 same-length : tie.Need-same-length
 same-length c = search needs
@@ -49,7 +49,7 @@ code-through-spec =
     slice-aggregate-put-utf8
     put-utf8-requires
     array-share-prefix-t
-    slice-aggregate-through
-    through-requires
+    slice-aggregate-run-through
+    run-through-requires
     same-length
     returns)

@@ -1,6 +1,6 @@
 -- `feeding::feed_bytes` meets its contract. Its laws are in this crate's `proofs/`; `search LAW` finds a law's premises in `c`. Assumes nothing.
 use native.Mathlib.Omega.{arith}
-use Rattle.feeding.proofs.Heads.{held-fits, code-fits, fed-completed, fed-passed, fed-growing}
+use Rattle.feeding.proofs.Heads.{held-few, held-fits, code-fits, fed-completed, fed-passed, fed-growing}
 use borrow.Author.Needs.{needs}
 use Rattle.feeding.proofs.feed_bytes.Statement.{statement}
 use Rattle.feeding.proofs.feed_bytes.Tie as tie
@@ -8,8 +8,11 @@ use Rattle.feeding.proofs.feed_bytes.Reads as reads
 use Rattle.feeding.proofs.feed_bytes.Lts as lts
 use Rattle.feeding.proofs.code_through.Reads as code-through-reads
 use Rattle.feeding.proofs.feed_rest.Reads as feed-rest-reads
-use Rattle.feeding.proofs.through.Reads as through-reads
+use Rattle.feeding.proofs.run_through.Reads as run-through-reads
 use Rattle.references.proofs.cross.Reads as cross-reads
+
+plan-of-requires : tie.Need-plan-of-requires
+plan-of-requires c κs = search needs
 
 cross-requires : tie.Need-cross-requires
 cross-requires c κs = search needs
@@ -21,22 +24,22 @@ code-through-requires : tie.Need-code-through-requires
 code-through-requires c κs =
     let k = c .before .before in
     let x = k .before .before in
-    let s = x .before .before .before .before in
+    let s = x .before .before .before .before .before in
     let q = code-fits (s .args .h) (s .args .piece .now) (x .cross .result) (x .cross .ensures) _ _ (k .case .given .1) in
-    (search needs, (search needs, (q .0, (omega (arith, q .1, q .2), omega (arith, q .1, q .2)))))
+    (search needs, (search needs, (q .0, (omega (arith, q .1, q .2), (omega (arith, q .1, q .2), search needs)))))
 
 feed-rest-requires : tie.Need-feed-rest-requires
 feed-rest-requires c κs =
     let y = c .before .before .before in
     let k = y .before .before .before in
     let x = k .before .before in
-    let s = x .before .before .before .before in
+    let s = x .before .before .before .before .before in
     let q = code-fits (s .args .h) (s .args .piece .now) (x .cross .result) (x .cross .ensures) _ _ (k .case .given .1) in
     let z = y .code-through .ensures in
     let few = z .few in
     let place = z .place in
     let long = z .long in
-    (search needs, (search needs, (q .2, (omega (arith, q .1, q .2), omega (arith, q .1, q .2)))))
+    (search needs, (search needs, (q .2, (omega (arith, q .1, q .2), (omega (arith, q .1, q .2), search needs)))))
 
 same-length : tie.Need-same-length
 same-length c = search needs
@@ -50,14 +53,21 @@ enum-told c = search needs
 array-share-prefix-b : tie.Need-array-share-prefix-b
 array-share-prefix-b c = search held-fits
 
-slice-aggregate-through : tie.Need-slice-aggregate-through
-slice-aggregate-through c = search needs
+slice-aggregate-run-through : tie.Need-slice-aggregate-run-through
+slice-aggregate-run-through c = search needs
 
-through-requires : tie.Need-through-requires
-through-requires c κs = search needs
+run-through-requires : tie.Need-run-through-requires
+run-through-requires c κs = (search needs, (search needs, (search needs, (search needs, search needs))))
 
 feed-rest-requires-2 : tie.Need-feed-rest-requires-2
-feed-rest-requires-2 c κs = search needs
+feed-rest-requires-2 c κs =
+    let s = c .before .before .before .before .before .before .before .before .before .before .before .before .before .before in
+    let z = c .before .before .before .run-through .ensures in
+    let few = z .few in
+    let place = z .place in
+    let long = z .long in
+    let n = held-few (s .args .h) in
+    (search needs, (search needs, (search needs, (omega arith, (omega arith, search needs)))))
 
 same-length-2 : tie.Need-same-length-2
 same-length-2 c = search needs
@@ -75,6 +85,7 @@ pub feed-bytes-spec : {M : Type 1} → statement M
 feed-bytes-spec =
     tie.close
     (tie.spec
+    plan-of-requires
     cross-requires
     enum-known-case
     code-through-requires
@@ -83,8 +94,8 @@ feed-bytes-spec =
     returns
     enum-told
     array-share-prefix-b
-    slice-aggregate-through
-    through-requires
+    slice-aggregate-run-through
+    run-through-requires
     feed-rest-requires-2
     same-length-2
     returns-2

@@ -11,16 +11,16 @@ use Rattle.feeding.proofs.scan_rest.Lts as lts
 use Rattle.feeding.proofs.token.Reads as token-reads
 
 abbrev Inv-loop : tie.InvT-loop
-Inv-loop table masks piece from ends₀ s₀ i₀ ends s i = Resting table masks s₀ piece from ends₀ s i ends
+Inv-loop table masks plan piece from ends₀ s₀ i₀ ends s i = Resting table masks s₀ piece from ends₀ s i ends
 
 abbrev μ-loop : tie.MeasureT-loop
-μ-loop table masks piece from ends₀ s₀ i₀ ends s i = length piece - i
+μ-loop table masks plan piece from ends₀ s₀ i₀ ends s i = length piece - i
 
 loop-holds : tie.Need-loop-holds Inv-loop μ-loop
 loop-holds c = search resting
 
 token-requires : tie.Need-token-requires Inv-loop μ-loop
-token-requires c κs = search needs
+token-requires c κs = (search needs, (search needs, (search needs, (search needs, (search needs, search needs)))))
 
 same-length : tie.Need-same-length Inv-loop μ-loop
 same-length c = search needs

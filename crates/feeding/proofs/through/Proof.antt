@@ -1,53 +1,22 @@
--- `feeding::through` meets its contract. Its laws are in this crate's `proofs/`; `search LAW` finds a law's premises in `c`. Assumes nothing.
-use Rattle.feeding.proofs.Steps.{stepped}
 use borrow.Author.Needs.{needs}
 use Rattle.feeding.proofs.through.Statement.{statement}
 use Rattle.feeding.proofs.through.Tie as tie
 use Rattle.feeding.proofs.through.Reads as reads
 use Rattle.feeding.proofs.through.Lts as lts
-use Rattle.stepping.proofs.run.Reads as run-reads
+use Rattle.feeding.proofs.run_through.Reads as run-through-reads
+use Rattle.plans.proofs.plan_of.Reads as plan-of-reads
 
-mul-run : tie.Need-mul-run
-mul-run c = search needs
+plan-of-requires : tie.Need-plan-of-requires
+plan-of-requires c κs = search needs
 
-sub-run : tie.Need-sub-run
-sub-run c = search needs
-
-part-run-start : tie.Need-part-run-start
-part-run-start c = search needs
-
-part-run-end : tie.Need-part-run-end
-part-run-end c = search needs
-
-run-requires : tie.Need-run-requires
-run-requires c κs = search needs
-
-cast-at : tie.Need-cast-at
-cast-at c = search needs
-
-add-at : tie.Need-add-at
-add-at c = search needs
-
-add-stored : tie.Need-add-stored
-add-stored c = search needs
+run-through-requires : tie.Need-run-through-requires
+run-through-requires c κs = (search needs, (search needs, (search needs, (search needs, search needs))))
 
 same-length : tie.Need-same-length
 same-length c = search needs
 
 returns : tie.Need-returns
-returns c = search stepped
+returns c = search needs
 
 pub through-spec : {M : Type 1} → statement M
-through-spec =
-    tie.close
-    (tie.spec
-    mul-run
-    sub-run
-    part-run-start
-    part-run-end
-    run-requires
-    cast-at
-    add-at
-    add-stored
-    same-length
-    returns)
+through-spec = tie.close (tie.spec plan-of-requires run-through-requires same-length returns)

@@ -6,40 +6,25 @@ use Rattle.feeding.proofs.token.Statement.{statement}
 use Rattle.feeding.proofs.token.Tie as tie
 use Rattle.feeding.proofs.token.Reads as reads
 use Rattle.feeding.proofs.token.Lts as lts
+use Rattle.amps.proofs.verbatim.Reads as verbatim-reads
 use Rattle.feeding.proofs.code_through.Reads as code-through-reads
-use Rattle.feeding.proofs.through.Reads as through-reads
+use Rattle.feeding.proofs.run_through.Reads as run-through-reads
 use Rattle.references.proofs.read_reference.Reads as read-reference-reads
-use Rattle.references.proofs.run_length.Reads as run-length-reads
 
-shared-slice-read-if1 : tie.Need-shared-slice-read-if1
-shared-slice-read-if1 c = search needs
+verbatim-requires : tie.Need-verbatim-requires
+verbatim-requires c κs = search needs
 
-sub-run-length : tie.Need-sub-run-length
-sub-run-length c = search needs
+sub-run-through : tie.Need-sub-run-through
+sub-run-through c = search needs
 
-part-run-length-start : tie.Need-part-run-length-start
-part-run-length-start c = search needs
+part-run-through-start : tie.Need-part-run-through-start
+part-run-through-start c = search needs
 
-part-run-length-end : tie.Need-part-run-length-end
-part-run-length-end c = search needs
+part-run-through-end : tie.Need-part-run-through-end
+part-run-through-end c = search needs
 
-run-length-requires : tie.Need-run-length-requires
-run-length-requires c κs = search needs
-
-add-e : tie.Need-add-e
-add-e c = search needs
-
-sub-through : tie.Need-sub-through
-sub-through c = search needs
-
-part-through-start : tie.Need-part-through-start
-part-through-start c = search needs
-
-part-through-end : tie.Need-part-through-end
-part-through-end c = search needs
-
-through-requires : tie.Need-through-requires
-through-requires c κs = search needs
+run-through-requires : tie.Need-run-through-requires
+run-through-requires c κs = (search needs, (search needs, (search needs, (search needs, search needs))))
 
 same-length : tie.Need-same-length
 same-length c = search needs
@@ -66,18 +51,16 @@ code-through-requires : tie.Need-code-through-requires
 code-through-requires c κs =
     let f = c .before .before in
     let x = f .before .before in
-    let i = x .before .before in
-    let s = i .before .before .before .before .before in
-    let q = code-steps (s .args .table .now) (s .args .masks) (s .args .g) (s .args .piece .now) (s .args .i) (s .args .ends .now) (s .pre .1 .1 .0) (i .if1 .left) (x .read-reference .result) (x .read-reference .ensures) _ _ (f .found .given .1) in
-    (search needs, (search needs, (q .0, (omega (arith, q .1, q .2), omega (arith, q .1, q .2)))))
+    let s = x .before .before .before .before .before .before .before in
+    let q = code-steps (s .args .table .now) (s .args .masks) (s .args .g) (s .args .piece .now) (s .args .i) (s .args .ends .now) (s .pre .1 .1 .0) (x .read-reference .result) (x .read-reference .ensures) _ _ (f .found .given .1) in
+    (search needs, (search needs, (q .0, (omega (arith, q .1, q .2), (omega (arith, q .1, q .2), search needs)))))
 
 add-after : tie.Need-add-after
 add-after c =
     let f = c .before .before .before .before .before in
     let x = f .before .before in
-    let i = x .before .before in
-    let s = i .before .before .before .before .before in
-    let q = code-steps (s .args .table .now) (s .args .masks) (s .args .g) (s .args .piece .now) (s .args .i) (s .args .ends .now) (s .pre .1 .1 .0) (i .if1 .left) (x .read-reference .result) (x .read-reference .ensures) _ _ (f .found .given .1) in
+    let s = x .before .before .before .before .before .before .before in
+    let q = code-steps (s .args .table .now) (s .args .masks) (s .args .g) (s .args .piece .now) (s .args .i) (s .args .ends .now) (s .pre .1 .1 .0) (x .read-reference .result) (x .read-reference .ensures) _ _ (f .found .given .1) in
     omega (arith, q .1)
 
 same-length-2 : tie.Need-same-length-2
@@ -89,20 +72,20 @@ returns-2 c = search token-code
 enum-told : tie.Need-enum-told
 enum-told c = search needs
 
-add-e-2 : tie.Need-add-e-2
-add-e-2 c = search needs
+add-after-2 : tie.Need-add-after-2
+add-after-2 c = search needs
 
-sub-through-2 : tie.Need-sub-through-2
-sub-through-2 c = search needs
+sub-run-through-2 : tie.Need-sub-run-through-2
+sub-run-through-2 c = search needs
 
-part-through-start-2 : tie.Need-part-through-start-2
-part-through-start-2 c = search needs
+part-run-through-start-2 : tie.Need-part-run-through-start-2
+part-run-through-start-2 c = search needs
 
-part-through-end-2 : tie.Need-part-through-end-2
-part-through-end-2 c = search needs
+part-run-through-end-2 : tie.Need-part-run-through-end-2
+part-run-through-end-2 c = search needs
 
-through-requires-2 : tie.Need-through-requires-2
-through-requires-2 c κs = search needs
+run-through-requires-2 : tie.Need-run-through-requires-2
+run-through-requires-2 c κs = (search needs, (search needs, (search needs, (search needs, search needs))))
 
 same-length-3 : tie.Need-same-length-3
 same-length-3 c = search needs
@@ -120,16 +103,11 @@ pub token-spec : {M : Type 1} → statement M
 token-spec =
     tie.close
     (tie.spec
-    shared-slice-read-if1
-    sub-run-length
-    part-run-length-start
-    part-run-length-end
-    run-length-requires
-    add-e
-    sub-through
-    part-through-start
-    part-through-end
-    through-requires
+    verbatim-requires
+    sub-run-through
+    part-run-through-start
+    part-run-through-end
+    run-through-requires
     same-length
     returns
     sub-read-reference
@@ -142,11 +120,11 @@ token-spec =
     same-length-2
     returns-2
     enum-told
-    add-e-2
-    sub-through-2
-    part-through-start-2
-    part-through-end-2
-    through-requires-2
+    add-after-2
+    sub-run-through-2
+    part-run-through-start-2
+    part-run-through-end-2
+    run-through-requires-2
     same-length-3
     returns-3
     enum-told-2

@@ -1,20 +1,23 @@
--- `references::skim` meets its contract. Its laws are in this crate's `proofs/`; `search LAW` finds a law's premises in `c`. Assumes nothing.
-use Rattle.references.proofs.Runs.{plain-begun, plain-block}
-use Rattle.references.specs.Decoder.{PlainIs}
-use lib.ListN.{length}
+-- `amps::skim_amp` meets its contract. Its laws are in this crate's `proofs/`; `search LAW` finds a law's premises in `c`. Assumes nothing.
 use Prim.Native.Nat.{_-_}
+use Rattle.amps.specs.Amps.{ampAt}
+use Rattle.looks.specs.Looks.{Missed}
+use Rattle.looks.proofs.LookLaws.{miss-begun, miss-more}
 use borrow.Author.Needs.{needs}
-use Rattle.references.proofs.skim.Statement.{statement}
-use Rattle.references.proofs.skim.Tie as tie
+use Rattle.amps.proofs.skim_amp.Statement.{statement}
+use Rattle.amps.proofs.skim_amp.Tie as tie
+use Rattle.amps.proofs.skim_amp.Reads as reads
+use Rattle.amps.proofs.skim_amp.Lts as lts
+use Rattle.amps.proofs.any_amp.Reads as any-amp-reads
 
 abbrev Inv-loop : tie.InvT-loop
-Inv-loop s i₀ i = PlainIs s i
+Inv-loop text i end i₀ i' = Missed (ampAt text) i end i'
 
 abbrev μ-loop : tie.MeasureT-loop
-μ-loop s i₀ i = length s - i
+μ-loop text i end i₀ i' = end - i'
 
 loop-holds : tie.Need-loop-holds Inv-loop μ-loop
-loop-holds c = search plain-begun
+loop-holds c = search miss-begun
 
 sub-loop : tie.Need-sub-loop Inv-loop μ-loop
 sub-loop c = search needs
@@ -32,13 +35,13 @@ loop-less : tie.Need-loop-less Inv-loop μ-loop
 loop-less c = search needs
 
 loop-again : tie.Need-loop-again Inv-loop μ-loop
-loop-again c = search plain-block
+loop-again c = search miss-more
 
 returns-2 : tie.Need-returns-2 Inv-loop μ-loop
 returns-2 c = search needs
 
-pub skim-spec : {M : Type 1} → statement M
-skim-spec =
+pub skim-amp-spec : {M : Type 1} → statement M
+skim-amp-spec =
     tie.close
     (tie.spec
     Inv-loop

@@ -1,0 +1,69 @@
+-- `amps::find_amp` meets its contract. Its laws are in this crate's `proofs/`; `search LAW` finds a law's premises in `c`. Assumes nothing.
+use Prim.Native.Nat.{_-_}
+use Rattle.amps.specs.Amps.{ampAt}
+use Rattle.looks.specs.Looks.{Missed}
+use Rattle.amps.proofs.AmpLaws.{amp-one}
+use borrow.Author.Needs.{needs}
+use Rattle.amps.proofs.find_amp.Statement.{statement}
+use Rattle.amps.proofs.find_amp.Tie as tie
+use Rattle.amps.proofs.find_amp.Reads as reads
+use Rattle.amps.proofs.find_amp.Lts as lts
+use Rattle.amps.proofs.is_second.Reads as is-second-reads
+use Rattle.amps.proofs.skim_amp.Reads as skim-amp-reads
+
+abbrev Inv-loop : tie.InvT-loop
+Inv-loop text i end i₀ i' = Missed (ampAt text) i end i'
+
+abbrev μ-loop : tie.MeasureT-loop
+μ-loop text i end i₀ i' = end - i'
+
+skim-amp-requires : tie.Need-skim-amp-requires Inv-loop μ-loop
+skim-amp-requires c κs = search needs
+
+loop-holds : tie.Need-loop-holds Inv-loop μ-loop
+loop-holds c = search needs
+
+shared-slice-read-if1 : tie.Need-shared-slice-read-if1 Inv-loop μ-loop
+shared-slice-read-if1 c = search needs
+
+add-is-second : tie.Need-add-is-second Inv-loop μ-loop
+add-is-second c = search needs
+
+shared-slice-read-is-second : tie.Need-shared-slice-read-is-second Inv-loop μ-loop
+shared-slice-read-is-second c = search needs
+
+is-second-requires : tie.Need-is-second-requires Inv-loop μ-loop
+is-second-requires c κs = search needs
+
+returns : tie.Need-returns Inv-loop μ-loop
+returns c = search needs
+
+add-i : tie.Need-add-i Inv-loop μ-loop
+add-i c = search needs
+
+loop-less : tie.Need-loop-less Inv-loop μ-loop
+loop-less c = search needs
+
+loop-again : tie.Need-loop-again Inv-loop μ-loop
+loop-again c = search amp-one
+
+returns-2 : tie.Need-returns-2 Inv-loop μ-loop
+returns-2 c = search needs
+
+pub find-amp-spec : {M : Type 1} → statement M
+find-amp-spec =
+    tie.close
+    (tie.spec
+    Inv-loop
+    μ-loop
+    skim-amp-requires
+    loop-holds
+    shared-slice-read-if1
+    add-is-second
+    shared-slice-read-is-second
+    is-second-requires
+    returns
+    add-i
+    loop-less
+    loop-again
+    returns-2)
