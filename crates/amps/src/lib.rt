@@ -27,6 +27,25 @@ fn any_amp(text: &[u8], i: usize) -> bool
     z
 }
 
+// `end`, where there is none from i on and that shows in one look at the last 32 places; or i.
+fn last_amp(text: &[u8], i: usize, end: usize) -> usize
+    requires { ⌜ i ≤ end ⌝ }
+    requires { ⌜ end < length (now text) ⌝ }
+    ensures { λ r. ⌜ Missed (ampAt (now (text .entry))) i end r ⌝ }
+{
+    if end < 32 {
+        return i;
+    }
+    let back = end - 32;
+    if i < back {
+        return i;
+    }
+    if any_amp(text, back) {
+        return i;
+    }
+    end
+}
+
 // None up to there: by thirty-twos.
 fn skim_amp(text: &[u8], i: usize, end: usize) -> usize
     requires { ⌜ i ≤ end ⌝ }
@@ -40,7 +59,7 @@ fn skim_amp(text: &[u8], i: usize, end: usize) -> usize
         }
         i += 32;
     }
-    i
+    last_amp(text, i, end)
 }
 
 // The next such place, or `end`.

@@ -52,6 +52,13 @@ miss-one f i₀ end i g h e = record { fore = omega arith; within = omega arith;
     go j p q (yes s) = g .none j p s
     go j p q (no s) = let e′ : j ≡ i = omega arith in rw e′ e
 
+-- all up to the end, by one look at the last k places
+pub miss-last : (f : ℕ → Bool) (i end back k : ℕ) (r : Bool) → i ≤ end → back ≡ end - k → k ≤ end → back ≤ i → r ≡ false → Looked f back k r → Missed f i end end
+miss-last f i end back k r h e s b q l = record { fore = h; within = omega arith; none = λ j p n. go j p n }
+  where
+    go : (j : ℕ) → i ≤ j → j < end → f j ≡ false
+    go j p n = let e′ : back + (j - back) ≡ j = omega arith in rw e′ at (l .none q (j - back) (omega arith))
+
 -- on from where another left off
 pub miss-join : (f : ℕ → Bool) (i₀ end i r : ℕ) → Missed f i₀ end i → Missed f i end r → Missed f i₀ end r
 miss-join f i₀ end i r g h = record { fore = omega arith; within = h .within; none = λ j p q. go j p q (decLt j i) }

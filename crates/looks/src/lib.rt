@@ -115,6 +115,25 @@ pub fn find_leaving(table: &[u64], next: u64, text: &[u8], i: usize) -> usize
     crawl_leaving(table, next, text, j)
 }
 
+// The text's end, where no byte from i on is x and that shows in one look at its last 32; or i.
+fn last_same(text: &[u8], x: u8, i: usize) -> usize
+    requires { ⌜ i ≤ length (now text) ⌝ }
+    ensures { λ r. ⌜ Missed (same (now (text .entry)) x) i (length (now (text .entry))) r ⌝ }
+{
+    let end = text.len();
+    if end < 32 {
+        return i;
+    }
+    let back = end - 32;
+    if i < back {
+        return i;
+    }
+    if any_same(text, x, back) {
+        return i;
+    }
+    end
+}
+
 // No byte up to there is x: by thirty-twos.
 pub fn skim_same(text: &[u8], x: u8, i: usize) -> usize
     requires { ⌜ i ≤ length (now text) ⌝ }
@@ -127,7 +146,26 @@ pub fn skim_same(text: &[u8], x: u8, i: usize) -> usize
         }
         i += 32;
     }
-    i
+    last_same(text, x, i)
+}
+
+// The same for bytes from lo to hi.
+fn last_between(text: &[u8], lo: u8, hi: u8, i: usize) -> usize
+    requires { ⌜ i ≤ length (now text) ⌝ }
+    ensures { λ r. ⌜ Missed (between (now (text .entry)) lo hi) i (length (now (text .entry))) r ⌝ }
+{
+    let end = text.len();
+    if end < 32 {
+        return i;
+    }
+    let back = end - 32;
+    if i < back {
+        return i;
+    }
+    if any_between(text, lo, hi, back) {
+        return i;
+    }
+    end
 }
 
 // No byte up to there is from lo to hi: by thirty-twos.
@@ -142,7 +180,27 @@ pub fn skim_between(text: &[u8], lo: u8, hi: u8, i: usize) -> usize
         }
         i += 32;
     }
-    i
+    last_between(text, lo, hi, i)
+}
+
+// The same for starts up to `end` that have the pair.
+fn last_pair(text: &[u8], a: usize, b: usize, x: u8, y: u8, i: usize, end: usize) -> usize
+    requires { ⌜ a < b ⌝ }
+    requires { ⌜ end + b ≤ length (now text) ⌝ }
+    requires { ⌜ i ≤ end ⌝ }
+    ensures { λ r. ⌜ Missed (pairAt (now (text .entry)) a b x y) i end r ⌝ }
+{
+    if end < 32 {
+        return i;
+    }
+    let back = end - 32;
+    if i < back {
+        return i;
+    }
+    if any_pair(text, a, b, x, y, back) {
+        return i;
+    }
+    end
 }
 
 // No start up to there has the pair: by thirty-twos.
@@ -159,7 +217,7 @@ fn skim_pair(text: &[u8], a: usize, b: usize, x: u8, y: u8, i: usize, end: usize
         }
         i += 32;
     }
-    i
+    last_pair(text, a, b, x, y, i, end)
 }
 
 // The next start that has the pair, or `end`.

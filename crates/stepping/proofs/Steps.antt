@@ -159,6 +159,6 @@ settled-by s t = s .says t
 
 -- ---- `blocks_of`
 
-pub blocks-are : {optional home first last : ℕ} → home ≡ opening 64 optional → first ≡ blockStarts 64 optional → last ≡ blockEnds 64 optional
-    → BlocksOf optional (record { home = home; first = first; last = last; touch = bitAnd (bitOr optional first) ((2 ^ 64 - 1) - home) })
+pub blocks-are : {optional home first last : ℕ} {stays : Bool} → home ≡ opening 64 optional → first ≡ blockStarts 64 optional → last ≡ blockEnds 64 optional
+    → BlocksOf optional (record { home = home; first = first; last = last; touch = bitAnd (bitOr optional first) ((2 ^ 64 - 1) - home); stays = stays })
 blocks-are {optional} eh ef el = record { home = eh; first = ef; last = el; touch = rw (eh, ef) }

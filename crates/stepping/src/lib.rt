@@ -50,26 +50,30 @@ pub fn step(d: u64, b: u64, k: u64, m: Masks) -> u64
 
 // What a walk keeps at hand of the optional positions: the opening state, the bit before each block
 // and the last of each, and where a state outside the opening state touches a block or the bit before
-// one.
+// one; and whether a position both may be missing and repeats, so that it pays to ask for states that
+// stay. Only speed hangs on the last.
 pub struct Blocks {
     pub home: u64,
     pub first: u64,
     pub last: u64,
     pub touch: u64,
+    pub stays: bool,
 }
 
-fn blocks_of(optional: u64) -> Blocks
+fn blocks_of(optional: u64, repeats: u64) -> Blocks
     ensures { λ r. ⌜ BlocksOf optional r ⌝ }
 {
     let home = words::opening(optional);
     let first = words::block_starts(optional);
     let last = words::block_ends(optional);
     let touch = (optional | first) & !home;
+    let stays = optional & repeats != 0;
     Blocks {
         home: home,
         first: first,
         last: last,
         touch: touch,
+        stays: stays,
     }
 }
 
@@ -123,8 +127,10 @@ fn step_over(d: u64, b: u64, m: Masks, q: Blocks) -> u64
     if x & q.touch == 0 {
         return x;
     }
-    if x == d {
-        return d;
+    if q.stays {
+        if x == d {
+            return d;
+        }
     }
     words::flood(x, m.optional, q.first, q.last)
 }
@@ -377,7 +383,7 @@ pub fn run(
     requires { ⌜ base + length (now text) < 2 ^ 32 ⌝ }
     ensures { λ r. ⌜ Scanned (now (table .entry)) m d base (now (text .entry)) (now (ends .entry)) r (now (ends .exit)) ⌝ }
 {
-    let q = blocks_of(m.optional);
+    let q = blocks_of(m.optional, m.repeats);
     let mut d = d;
     let mut at = base;
     let mut n = 0;

@@ -2,7 +2,7 @@
 use Prim.Native.Nat.{_-_}
 use Rattle.amps.specs.Amps.{ampAt}
 use Rattle.looks.specs.Looks.{Missed}
-use Rattle.looks.proofs.LookLaws.{miss-begun, miss-more}
+use Rattle.looks.proofs.LookLaws.{miss-begun, miss-more, miss-join}
 use borrow.Author.Needs.{needs}
 use Rattle.amps.proofs.skim_amp.Statement.{statement}
 use Rattle.amps.proofs.skim_amp.Tie as tie
@@ -37,8 +37,11 @@ loop-less c = search needs
 loop-again : tie.Need-loop-again Inv-loop μ-loop
 loop-again c = search miss-more
 
+last-amp-requires : tie.Need-last-amp-requires Inv-loop μ-loop
+last-amp-requires c κs = search needs
+
 returns-2 : tie.Need-returns-2 Inv-loop μ-loop
-returns-2 c = search needs
+returns-2 c = search miss-join
 
 pub skim-amp-spec : {M : Type 1} → statement M
 skim-amp-spec =
@@ -53,4 +56,5 @@ skim-amp-spec =
     add-i
     loop-less
     loop-again
+    last-amp-requires
     returns-2)

@@ -2,7 +2,7 @@
 use borrow.Author.Needs.{needs}
 use Prim.Native.Nat.{_-_}
 use lib.ListN.{length}
-use Rattle.looks.proofs.LookLaws.{miss-begun, miss-more}
+use Rattle.looks.proofs.LookLaws.{miss-begun, miss-more, miss-join}
 use Rattle.looks.specs.Looks.{Missed, between}
 use Rattle.looks.proofs.skim_between.Statement.{statement}
 use Rattle.looks.proofs.skim_between.Tie as tie
@@ -34,8 +34,11 @@ loop-less c = search needs
 loop-again : tie.Need-loop-again Inv-loop μ-loop
 loop-again c = search miss-more
 
+last-between-requires : tie.Need-last-between-requires Inv-loop μ-loop
+last-between-requires c κs = search needs
+
 returns-2 : tie.Need-returns-2 Inv-loop μ-loop
-returns-2 c = search needs
+returns-2 c = search miss-join
 
 pub skim-between-spec : {M : Type 1} → statement M
 skim-between-spec =
@@ -50,4 +53,5 @@ skim-between-spec =
     add-i
     loop-less
     loop-again
+    last-between-requires
     returns-2)

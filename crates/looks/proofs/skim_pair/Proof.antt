@@ -1,7 +1,7 @@
 -- `looks::skim_pair` meets its contract. Its laws are in this crate's `proofs/`; `search LAW` finds a law's premises in `c`. Assumes nothing.
 use borrow.Author.Needs.{needs}
 use Prim.Native.Nat.{_-_}
-use Rattle.looks.proofs.LookLaws.{miss-begun, miss-more}
+use Rattle.looks.proofs.LookLaws.{miss-begun, miss-more, miss-join}
 use Rattle.looks.specs.Looks.{Missed, pairAt}
 use Rattle.looks.proofs.skim_pair.Statement.{statement}
 use Rattle.looks.proofs.skim_pair.Tie as tie
@@ -33,8 +33,11 @@ loop-less c = search needs
 loop-again : tie.Need-loop-again Inv-loop μ-loop
 loop-again c = search miss-more
 
+last-pair-requires : tie.Need-last-pair-requires Inv-loop μ-loop
+last-pair-requires c κs = search needs
+
 returns-2 : tie.Need-returns-2 Inv-loop μ-loop
-returns-2 c = search needs
+returns-2 c = search miss-join
 
 pub skim-pair-spec : {M : Type 1} → statement M
 skim-pair-spec =
@@ -49,4 +52,5 @@ skim-pair-spec =
     add-i
     loop-less
     loop-again
+    last-pair-requires
     returns-2)

@@ -2,7 +2,7 @@
 use borrow.Author.Needs.{needs}
 use Prim.Native.Nat.{_-_}
 use lib.ListN.{length}
-use Rattle.looks.proofs.LookLaws.{miss-begun, miss-more}
+use Rattle.looks.proofs.LookLaws.{miss-begun, miss-more, miss-join}
 use Rattle.looks.specs.Looks.{Missed, same}
 use Rattle.looks.proofs.skim_same.Statement.{statement}
 use Rattle.looks.proofs.skim_same.Tie as tie
@@ -34,8 +34,11 @@ loop-less c = search needs
 loop-again : tie.Need-loop-again Inv-loop μ-loop
 loop-again c = search miss-more
 
+last-same-requires : tie.Need-last-same-requires Inv-loop μ-loop
+last-same-requires c κs = search needs
+
 returns-2 : tie.Need-returns-2 Inv-loop μ-loop
-returns-2 c = search needs
+returns-2 c = search miss-join
 
 pub skim-same-spec : {M : Type 1} → statement M
 skim-same-spec =
@@ -50,4 +53,5 @@ skim-same-spec =
     add-i
     loop-less
     loop-again
+    last-same-requires
     returns-2)
