@@ -8,7 +8,7 @@ use native.Mathlib.Omega.{arith}
 use lib.Dec.{T, eqb}
 use lib.ListN.{length, take, drop, getD, drop-of-length-le, length-drop, take-append-drop}
 use lib.Seq.{drop-cons, drop-drop, take-all}
-use borrow.Author.Tests.{ne-eqb, eqb-false, eqb-true}
+use borrow.Author.Tests.{ne-eqb, eq-eqb, eqb-false, eqb-true}
 use Rattle.model.specs.References.{formLimit, none, referenceAt, notAmp, canGrow, heldTail, letOut}
 use Rattle.model.proofs.Truth.{or-false-left, or-false-right, T-to}
 use Rattle.references.proofs.Cuts.{held-none, letOut-none, held-plain, letOut-plain}
@@ -22,9 +22,16 @@ pub amp-on : (text : List ℕ) (i k : ℕ) (z : Bool) (j : ℕ) (q : Bool) → j
     → Looking (ampAt text) i k (z || (eqb (getD text (i + j) 0) 38 && q)) (j + 1)
 amp-on text i k z j q h e g = rw e (look-on (ampAt text) i k z j h g)
 
-pub amp-one : (text : List ℕ) (i₀ end i : ℕ) (q : Bool) → i < end → q ≡ second (getD text (i + 1) 0) → (eqb (getD text i 0) 38 && q) ≡ false
-    → Missed (ampAt text) i₀ end i → Missed (ampAt text) i₀ end (i + 1)
-amp-one text i₀ end i q h e z g = miss-one (ampAt text) i₀ end i g h (ap (λ (b : Bool). eqb (getD text i 0) 38 && b) (sym e) ∙ z)
+pub amp-one : (text : List ℕ) (i₀ end i : ℕ) (r : Bool) → i < end → r ≡ ampAt text i → r ≡ false → Missed (ampAt text) i₀ end i → Missed (ampAt text) i₀ end (i + 1)
+amp-one text i₀ end i r h e z g = miss-one (ampAt text) i₀ end i g h (sym e ∙ z)
+
+-- ---- `is_amp`
+
+pub other-byte : (text : List ℕ) (i : ℕ) → (getD text i 0 ≡ 38 → ⊥) → false ≡ ampAt text i
+other-byte text i n = sym (ap (λ (b : Bool). b && second (getD text (i + 1) 0)) (ne-eqb (getD text i 0) 38 n))
+
+pub amp-then : (text : List ℕ) (i : ℕ) (r : Bool) → getD text i 0 ≡ 38 → r ≡ second (getD text (i + 1) 0) → r ≡ ampAt text i
+amp-then text i r e q = q ∙ sym (ap (λ (b : Bool). b && second (getD text (i + 1) 0)) (eq-eqb (getD text i 0) 38 e))
 
 -- ---- no form begins
 

@@ -62,6 +62,17 @@ fn skim_amp(text: &[u8], i: usize, end: usize) -> usize
     last_amp(text, i, end)
 }
 
+// Whether it stands at i.
+fn is_amp(text: &[u8], i: usize) -> bool
+    requires { ⌜ i + 1 < length (now text) ⌝ }
+    ensures { λ r. ⌜ r ≡ ampAt (now (text .entry)) i ⌝ }
+{
+    if text[i] != b'&' {
+        return false;
+    }
+    is_second(text[i + 1])
+}
+
 // The next such place, or `end`.
 fn find_amp(text: &[u8], i: usize, end: usize) -> usize
     requires { ⌜ i ≤ end ⌝ }
@@ -70,7 +81,7 @@ fn find_amp(text: &[u8], i: usize, end: usize) -> usize
 {
     let mut i = skim_amp(text, i, end);
     while i < end {
-        if (text[i] == b'&') & is_second(text[i + 1]) {
+        if is_amp(text, i) {
             return i;
         }
         i += 1;

@@ -315,6 +315,9 @@ fn pass_pair(
     looks::find_pair(text, a, b, x, y, i, text.len() - b)
 }
 
+// A text of fewer bytes than this, as between two references that stand close, is walked through.
+const SHORT: usize = 32;
+
 // The place up to which nothing happens.
 fn pass(table: &[u64], m: Masks, p: Plan, d: u64, text: &[u8], i: usize) -> usize
     requires { ⌜ length (now table) ≡ 256 ⌝ }
@@ -324,6 +327,9 @@ fn pass(table: &[u64], m: Masks, p: Plan, d: u64, text: &[u8], i: usize) -> usiz
 {
     let kind = p.kind;
     if kind == plans::NO_SKIP {
+        return i;
+    }
+    if text.len() < SHORT {
         return i;
     }
     if d != p.home {

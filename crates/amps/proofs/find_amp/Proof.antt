@@ -8,7 +8,7 @@ use Rattle.amps.proofs.find_amp.Statement.{statement}
 use Rattle.amps.proofs.find_amp.Tie as tie
 use Rattle.amps.proofs.find_amp.Reads as reads
 use Rattle.amps.proofs.find_amp.Lts as lts
-use Rattle.amps.proofs.is_second.Reads as is-second-reads
+use Rattle.amps.proofs.is_amp.Reads as is-amp-reads
 use Rattle.amps.proofs.skim_amp.Reads as skim-amp-reads
 
 abbrev Inv-loop : tie.InvT-loop
@@ -23,17 +23,8 @@ skim-amp-requires c κs = search needs
 loop-holds : tie.Need-loop-holds Inv-loop μ-loop
 loop-holds c = search needs
 
-shared-slice-read-if1 : tie.Need-shared-slice-read-if1 Inv-loop μ-loop
-shared-slice-read-if1 c = search needs
-
-add-is-second : tie.Need-add-is-second Inv-loop μ-loop
-add-is-second c = search needs
-
-shared-slice-read-is-second : tie.Need-shared-slice-read-is-second Inv-loop μ-loop
-shared-slice-read-is-second c = search needs
-
-is-second-requires : tie.Need-is-second-requires Inv-loop μ-loop
-is-second-requires c κs = search needs
+is-amp-requires : tie.Need-is-amp-requires Inv-loop μ-loop
+is-amp-requires c κs = search needs
 
 returns : tie.Need-returns Inv-loop μ-loop
 returns c = search needs
@@ -58,10 +49,7 @@ find-amp-spec =
     μ-loop
     skim-amp-requires
     loop-holds
-    shared-slice-read-if1
-    add-is-second
-    shared-slice-read-is-second
-    is-second-requires
+    is-amp-requires
     returns
     add-i
     loop-less

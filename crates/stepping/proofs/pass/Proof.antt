@@ -11,14 +11,17 @@ returns c = search pass-none
 returns-2 : tie.Need-returns-2
 returns-2 c = search pass-none
 
+returns-3 : tie.Need-returns-3
+returns-3 c = search pass-none
+
 skim-same-requires : tie.Need-skim-same-requires
 skim-same-requires c κs = search needs
 
 crawl-leaving-requires : tie.Need-crawl-leaving-requires
 crawl-leaving-requires c κs = search needs
 
-returns-3 : tie.Need-returns-3
-returns-3 c = search by-one
+returns-4 : tie.Need-returns-4
+returns-4 c = search by-one
 
 skim-between-requires : tie.Need-skim-between-requires
 skim-between-requires c κs = search needs
@@ -26,20 +29,20 @@ skim-between-requires c κs = search needs
 crawl-leaving-requires-2 : tie.Need-crawl-leaving-requires-2
 crawl-leaving-requires-2 c κs = search needs
 
-returns-4 : tie.Need-returns-4
-returns-4 c = search by-range
+returns-5 : tie.Need-returns-5
+returns-5 c = search by-range
 
 pass-pair-requires : tie.Need-pass-pair-requires
 pass-pair-requires c κs = search (is-paired, needs)
 
-returns-5 : tie.Need-returns-5
-returns-5 c = search by-pair
+returns-6 : tie.Need-returns-6
+returns-6 c = search by-pair
 
 find-leaving-requires : tie.Need-find-leaving-requires
 find-leaving-requires c κs = search needs
 
-returns-6 : tie.Need-returns-6
-returns-6 c = search by-table
+returns-7 : tie.Need-returns-7
+returns-7 c = search by-table
 
 pub pass-spec : {M : Type 1} → statement M
 pass-spec =
@@ -47,13 +50,14 @@ pass-spec =
     (tie.spec
     returns
     returns-2
+    returns-3
     skim-same-requires
     crawl-leaving-requires
-    returns-3
+    returns-4
     skim-between-requires
     crawl-leaving-requires-2
-    returns-4
-    pass-pair-requires
     returns-5
+    pass-pair-requires
+    returns-6
     find-leaving-requires
-    returns-6)
+    returns-7)
