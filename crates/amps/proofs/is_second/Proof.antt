@@ -1,0 +1,12 @@
+-- `amps::is_second` meets its contract. Its laws are in this crate's `proofs/`; `search LAW` finds a law's premises in `c`. Assumes nothing.
+use borrow.Author.Needs.{needs}
+use Rattle.amps.proofs.is_second.Statement.{statement}
+use Rattle.amps.proofs.is_second.Tie as tie
+use Rattle.amps.proofs.is_second.Reads as reads
+use Rattle.amps.proofs.is_second.Lts as lts
+
+returns : tie.Need-returns
+returns c = search needs
+
+pub is-second-spec : {M : Type 1} → statement M
+is-second-spec = tie.close (tie.spec returns)
