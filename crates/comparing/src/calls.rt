@@ -9,6 +9,9 @@ use references::Answer;
 // Entries of the lists and buffers that the calls are lent parts of.
 pub const LIST: usize = 512;
 
+// Numbers of the slice that an opening is lent a part of: one more than a scan value has.
+const SCAN: usize = 274;
+
 // What each entry is set to before a call, to see which of them it writes.
 const MARK: u32 = 4_294_967_295;
 
@@ -23,6 +26,13 @@ pub fn at_most(n: usize, most: usize) -> usize
         return n;
     }
     most
+}
+
+fn both(a: bool, b: bool) -> bool {
+    if a {
+        return b;
+    }
+    false
 }
 
 fn same_bytes(a: &[u8], b: &[u8]) -> bool {
@@ -68,19 +78,31 @@ fn same_words(a: &[u64], b: &[u64]) -> bool {
 }
 
 fn same_answer(a: Answer, b: naive::Answer) -> bool {
-    a.number == b.number
-        && a.place as usize == b.place
-        && a.count as usize == b.count
-        && a.windows as usize == b.windows
+    if a.number != b.number {
+        return false;
+    }
+    if a.place as usize != b.place {
+        return false;
+    }
+    if a.count as usize != b.count {
+        return false;
+    }
+    a.windows as usize == b.windows
 }
 
 // ---- rules
 
 fn same_rule(number: u32, place: u32, positions: u32, shortest: u32, r: Rule) -> bool {
-    number == r.number
-        && place as usize == r.place
-        && positions as usize == r.positions
-        && shortest as usize == r.shortest
+    if number != r.number {
+        return false;
+    }
+    if place as usize != r.place {
+        return false;
+    }
+    if positions as usize != r.positions {
+        return false;
+    }
+    shortest as usize == r.shortest
 }
 
 pub fn prepares(rule: &[u8], fold: u32, r: Rule) -> bool {
@@ -88,39 +110,43 @@ pub fn prepares(rule: &[u8], fold: u32, r: Rule) -> bool {
     same_rule(p.number, p.place, p.positions, p.shortest, r)
 }
 
-// An opening, which writes its slice only if it is not refused.
-fn opens_to(rule: &[u8], fold: u32, scan: &mut [u64], before: &[u64], r: Rule) -> bool {
-    let o = scan::open(rule, fold, scan);
-    same_rule(o.number, o.place, o.positions, o.shortest, r)
-        && (o.number == 0 || same_words(scan, before))
-}
-
-pub fn opens(rule: &[u8], fold: u32, r: Rule) -> bool {
-    let mut scan = [MARK_WORD; scan_values::LENGTH];
-    let before = [MARK_WORD; scan_values::LENGTH];
-    opens_to(rule, fold, &mut scan, &before, r)
-}
-
-// What an opening with a slice of another length answers: 11, but a refused rule comes first.
-fn other_length(r: Rule) -> Rule {
+// What an opening answers: a slice of another length than a scan value gives 11, but a refused rule
+// comes first.
+fn opened(r: Rule, n: usize) -> Rule {
     if r.number != 0 {
         return r;
     }
-    Rule {
-        number: 11,
-        place: 0,
-        positions: 0,
-        shortest: 0,
+    if n != scan_values::LENGTH {
+        return Rule {
+            number: 11,
+            place: 0,
+            positions: 0,
+            shortest: 0,
+        };
     }
+    r
 }
 
-pub fn opens_other_length(rule: &[u8], fold: u32, r: Rule) -> bool {
-    let mut short = [MARK_WORD; 272];
-    let mut long = [MARK_WORD; 274];
-    let before_short = [MARK_WORD; 272];
-    let before_long = [MARK_WORD; 274];
-    opens_to(rule, fold, &mut short, &before_short, other_length(r))
-        && opens_to(rule, fold, &mut long, &before_long, other_length(r))
+// An opening writes its slice only if it is not refused.
+fn kept_if(refused: bool, scan: &[u64], before: &[u64]) -> bool {
+    if refused {
+        return same_words(scan, before);
+    }
+    true
+}
+
+fn open_both(rule: &[u8], fold: u32, r: Rule, scan: &mut [u64], before: &[u64]) -> bool {
+    let o = scan::open(rule, fold, scan);
+    let same = same_rule(o.number, o.place, o.positions, o.shortest, r);
+    both(same, kept_if(o.number != 0, scan, before))
+}
+
+// With a slice of n numbers.
+pub fn opens(rule: &[u8], fold: u32, r: Rule, n: usize) -> bool {
+    let m = at_most(n, SCAN);
+    let mut scan = [MARK_WORD; SCAN];
+    let before = [MARK_WORD; SCAN];
+    open_both(rule, fold, opened(r, m), &mut scan[0..m], &before[0..m])
 }
 
 // ---- whole texts
@@ -129,7 +155,7 @@ fn decode_both(raw: &[u8], ours: &mut [u8], theirs: &mut [u8], tally: &mut [u64]
     let a = references::decode(raw, ours);
     let b = naive::decode(raw, theirs);
     report::count_call(tally, b.number);
-    same_answer(a, b) && same_bytes(ours, theirs)
+    both(same_answer(a, b), same_bytes(ours, theirs))
 }
 
 // With a buffer of n bytes.
@@ -155,7 +181,7 @@ fn search_both(
     report::count_call(tally, b.number);
     report::add(tally, report::STARTS, b.count);
     report::add(tally, report::WINDOWS, b.windows);
-    same_answer(a, b) && same_list(ours, theirs)
+    both(same_answer(a, b), same_list(ours, theirs))
 }
 
 // With a list of n entries.
@@ -205,9 +231,10 @@ fn compare_scan_call(
     let plain = c.plain;
     report::count_call(tally, b.number);
     report::add(tally, report::ENDS, b.count);
-    let scan_is = a.number == 0 || same_words(scan, before);
+    let answers = both(same_answer(a, b), same_list(ours, theirs));
+    let same = both(answers, kept_if(a.number != 0, scan, before));
     Compared {
-        same: same_answer(a, b) && same_list(ours, theirs) && scan_is,
+        same: same,
         plain: plain,
     }
 }
@@ -310,25 +337,29 @@ pub fn finishes(
     )
 }
 
-fn is_eleven(a: Answer, list: &[u32]) -> bool {
-    let eleven = naive::Answer {
-        number: 11,
-        place: 0,
-        count: 0,
-        windows: 0,
-    };
-    let before = [MARK; 9];
-    same_answer(a, eleven) && same_list(list, &before)
+fn is_eleven(a: Answer) -> bool {
+    same_answer(
+        a,
+        naive::Answer {
+            number: 11,
+            place: 0,
+            count: 0,
+            windows: 0,
+        },
+    )
 }
 
-// A feed and a finish of a scan value of zeros, which has no position.
+// A feed and a finish of a scan value that is impossible, since it has no position.
+fn refuse_both(piece: &[u8], scan: &mut [u64], list: &mut [u32]) -> bool {
+    let fed = scan::feed(scan, piece, list);
+    let finished = scan::finish(scan, list);
+    both(is_eleven(fed), is_eleven(finished))
+}
+
 pub fn refuses_zeros(piece: &[u8], tally: &mut [u64]) -> bool {
     let mut scan = [0u64; scan_values::LENGTH];
-    let before = [0u64; scan_values::LENGTH];
     let mut list = [MARK; 9];
-    let fed = scan::feed(&mut scan, piece, &mut list);
-    let finished = scan::finish(&mut scan, &mut list);
     report::count_call(tally, 11);
     report::count_call(tally, 11);
-    is_eleven(fed, &list) && is_eleven(finished, &list) && same_words(&scan, &before)
+    refuse_both(piece, &mut scan, &mut list)
 }

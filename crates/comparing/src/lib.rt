@@ -36,37 +36,30 @@ fn count_rule(r: Rule, tally: &mut [u64]) {
     }
 }
 
+// An opening with a slice of n numbers.
+fn compare_open(rule: &[u8], fold: u32, raw: &[u8], r: Rule, n: usize, tally: &mut [u64]) {
+    let same = calls::opens(rule, fold, r, n);
+    report::expect(same, b"open", whole(rule.len(), n), rule, fold, raw, tally);
+}
+
 fn compare_rule(rule: &[u8], fold: u32, raw: &[u8], r: Rule, tally: &mut [u64]) {
     count_rule(r, tally);
-    let c = whole(rule.len(), 0);
+    let same = calls::prepares(rule, fold, r);
     report::expect(
-        calls::prepares(rule, fold, r),
+        same,
         b"prepare",
-        c,
+        whole(rule.len(), 0),
         rule,
         fold,
         raw,
         tally,
     );
-    report::expect(
-        calls::opens(rule, fold, r),
-        b"open",
-        c,
-        rule,
-        fold,
-        raw,
-        tally,
-    );
-    let other = calls::opens_other_length(rule, fold, r);
-    report::expect(
-        other,
-        b"open with another length",
-        c,
-        rule,
-        fold,
-        raw,
-        tally,
-    );
+}
+
+fn compare_opens(rule: &[u8], fold: u32, raw: &[u8], r: Rule, tally: &mut [u64]) {
+    compare_open(rule, fold, raw, r, scan_values::LENGTH, tally);
+    compare_open(rule, fold, raw, r, scan_values::LENGTH - 1, tally);
+    compare_open(rule, fold, raw, r, scan_values::LENGTH + 1, tally);
 }
 
 fn compare_decode(rule: &[u8], fold: u32, raw: &[u8], n: usize, tally: &mut [u64]) {
@@ -138,6 +131,7 @@ pub fn compare(rule: &[u8], fold: u32, raw: &[u8], random: &mut u64, tally: &mut
         naive_references::references_in(raw),
     );
     compare_rule(rule, fold, raw, r, tally);
+    compare_opens(rule, fold, raw, r, tally);
     compare_texts(rule, fold, raw, r, &table, tally);
     compare_decoded(rule, fold, raw, r, &table, tally);
     compare_scan(rule, fold, raw, r, &table, random, tally);
