@@ -1,4 +1,66 @@
-# make test: the gate, from nothing. (.ci/run is the same thing.)
-.PHONY: test
+# make            the proved archive and the command line program
+# make run        finds the seats of a sample plan
+# make test       the gate and the host tests; the last line is the gate's, 'N passed, M failed'
+# make host-test  the host tests alone: C programs against the archive, and the command line program
+# make install    archive, header, pkg-config file, program and man page, under $(DESTDIR)$(PREFIX); make uninstall
+# make bench, make clean
+
+PREFIX = /usr/local
+CC = cc
+CXX = c++
+CFLAGS = -O2 -g
+WARNINGS = -Wall -Wextra -Wpedantic -Wconversion -Wshadow
+COMPILE = $(CC) -std=c99 $(WARNINGS) $(CFLAGS) -Iinclude
+
+ARCHIVE = target/staticlib/libfinder.a
+PROGRAM = build/jazhuppe
+HEADER = include/jazhuppe.h
+TESTS = $(addprefix build/test/, marked refusals scan_values limits differential)
+VERSION = $(shell sed -n 's/^\#define JAZHUPPE_VERSION "\(.*\)"/\1/p' $(HEADER))
+INTO = $(DESTDIR)$(PREFIX)
+
+all: $(ARCHIVE) $(PROGRAM)
+
+# It needs the Rattle kit's rt, which proves what has changed and compiles it only then.
+$(ARCHIVE): crates.txt $(shell find crates -name must-fail -prune -o -type f -print)
+	rt staticlib finder
+
+$(PROGRAM): host/jazhuppe.c $(HEADER) $(ARCHIVE)
+	@mkdir -p $(@D)
+	$(COMPILE) $< $(ARCHIVE) -o $@
+
+run: $(PROGRAM)
+	@PROGRAM=$(PROGRAM) sh host/sample.sh
+
+build/test/%.o: host/test/%.c $(wildcard host/test/*.h) $(HEADER)
+	@mkdir -p $(@D)
+	$(COMPILE) -c $< -o $@
+
+$(TESTS): %: %.o build/test/testing.o build/test/second.o $(ARCHIVE)
+	$(CC) $^ -o $@
+
+host-test: $(PROGRAM) $(TESTS)
+	CC="$(CC)" CXX="$(CXX)" PROGRAM=$(PROGRAM) sh host/test/all.sh
+
 test:
 	bash .ci/run
+
+install: all
+	install -d $(INTO)/bin $(INTO)/include $(INTO)/lib/pkgconfig $(INTO)/share/man/man1
+	install -m 755 $(PROGRAM) $(INTO)/bin/jazhuppe
+	install -m 644 $(HEADER) $(INTO)/include/jazhuppe.h
+	install -m 644 $(ARCHIVE) $(INTO)/lib/libjazhuppe.a
+	sed 's|@PREFIX@|$(PREFIX)|; s|@VERSION@|$(VERSION)|' host/jazhuppe.pc.in > $(INTO)/lib/pkgconfig/jazhuppe.pc
+	install -m 644 host/jazhuppe.1 $(INTO)/share/man/man1/jazhuppe.1
+
+uninstall:
+	rm -f $(INTO)/bin/jazhuppe $(INTO)/include/jazhuppe.h $(INTO)/lib/libjazhuppe.a $(INTO)/lib/pkgconfig/jazhuppe.pc \
+	  $(INTO)/share/man/man1/jazhuppe.1
+
+bench: $(ARCHIVE) $(PROGRAM)
+	@if [ -x bench/run ]; then bench/run; else echo "there is no bench/run"; fi
+
+clean:
+	rm -rf build target
+
+.PHONY: all run host-test test install uninstall bench clean

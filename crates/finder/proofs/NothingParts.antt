@@ -3,32 +3,32 @@
 -- plan gives exactly their starts and the windows of the published sequence, no move passes over a start, and a plan that decodes alike gets the same. About the
 -- very definitions that the contracts of `open`, `feed`, `finish` and `search` cite. Assumes nothing.
 use mathlib.Core.Path.{_≡_, refl, sym, ap, subst, _∙_}
-use mathlib.Core.Bool.{Bool, true, false, cond}
+use mathlib.Core.Bool.{Bool, true, cond}
 use mathlib.Core.Logic.{_↔_}
-use mathlib.Core.List.{List}
-use Prim.Native.Nat.{ℕ, _+_, _≤_, _<_}
-use lib.Dec.{eqb}
+use Prim.Native.Nat.{ℕ, zero, suc, _+_, _≤_, _<_}
 use native.Mathlib.Omega.{arith}
-use borrow.Author.Tests.{eqb-false}
-use lib.ListN.{length}
-use mathlib.Core.List.{List, List·Memᴰ}
+use lib.Dec.{eqb, ltb, nltb→le}
+use lib.ListN.{length, length-append}
+use borrow.Author.Tests.{eq-eqb, le-ltb}
+use mathlib.Core.List.{List, [], _∷_, List·Memᴰ}
 use Rattle.model.specs.Occurrence.{Position, StartsAt, EndsAt, ends, starts}
-use Rattle.model.specs.RuleText.{foldFlag, Element, positions, positionLimit, ruleLimit}
-use Rattle.model.specs.NumberedAnswers.{Parsed, refused, accepted, parse, positionsBy, rulePositions, wholeRefusal, overwrite}
+use Rattle.model.specs.RuleText.{foldFlag, positions}
+use Rattle.model.specs.NumberedAnswers.{textLimit, parse, positionsBy, rulePositions, wholeRefusal, overwrite}
 use Rattle.model.specs.References.{formLimit, decode}
-use Rattle.model.specs.PlainScan.{Call, plainScan, nothingKept, keptAfter, reportedEnds}
+use Rattle.model.specs.PlainScan.{Call, feed, finish, Kept, refusal, after, plainScan, nothingKept, keptAfter, reportedEnds}
 use Rattle.model.specs.WindowSearch.{windowAt, shift, windows}
 use Rattle.model.proofs.Accepted.{rule-ok}
-use Rattle.model.proofs.Refusals.{refusal-row}
+use Rattle.model.proofs.Truth.{branch}
+use Rattle.model.proofs.Decoding.{decode-length}
 use Rattle.model.proofs.Decided.{RisingFrom}
 use Rattle.model.proofs.Decided as Decided
 use Rattle.model.proofs.Plans.{plan-ends}
 use Rattle.model.proofs.Windows.{no-start-passed}
 use Rattle.references.specs.declared.Answer.{Answer}
 use Rattle.scan.specs.declared.Opened.{Opened}
-use Rattle.scan.specs.Opening.{answerBy, OpenIs}
+use Rattle.scan.specs.Opening.{OpenIs}
 use Rattle.scan.specs.Calls.{runFrom, Bytes, PiecesAreBytes}
-use Rattle.scan.proofs.PlainScan.{scan-is-plain}
+use Rattle.scan.proofs.PlainScan.{OpenedWith, opened-with, scan-is-plain}
 use Rattle.finder.specs.Searching.{answering, searchAnswer, searchList, SearchIs}
 
 -- the finished plan, decoded
@@ -45,9 +45,8 @@ pub record Finished (flag : ℕ) (rule : List ℕ) (s : List ℕ) (cs : List Cal
   pub an-end : (e : ℕ) → List·Memᴰ e (reportedEnds (runFrom s cs)) ↔ EndsAt (rulePositions (foldFlag flag) rule) (planOf cs) e
   pub ends-rise : RisingFrom 0 (reportedEnds (runFrom s cs))
   -- the search, with a list that is long enough: exactly the starts, once each, rising, and the published windows
-  pub search : (list : List ℕ) (r : Answer) (list′ : List ℕ) → SearchIs flag rule (planOf cs) list r list′ → r .number ≡ 0
-      → (r .count ≡ length (starts (rulePositions (foldFlag flag) rule) (planOf cs)))
-      × (r .windows ≡ length (windows (rulePositions (foldFlag flag) rule) (planOf cs)))
+  pub search : (list : List ℕ) (r : Answer) (list′ : List ℕ) → SearchIs flag rule (planOf cs) list r list′ → length (planOf cs) ≤ length list
+      → (r ≡ answering 0 0 (length (starts (rulePositions (foldFlag flag) rule) (planOf cs))) (length (windows (rulePositions (foldFlag flag) rule) (planOf cs))))
       × (list′ ≡ overwrite list (starts (rulePositions (foldFlag flag) rule) (planOf cs)))
   pub a-start : (k : ℕ) → List·Memᴰ k (starts (rulePositions (foldFlag flag) rule) (planOf cs)) ↔ StartsAt (rulePositions (foldFlag flag) rule) (planOf cs) k
   pub starts-rise : RisingFrom 0 (starts (rulePositions (foldFlag flag) rule) (planOf cs))
@@ -65,62 +64,67 @@ pub record NothingParts (flag : ℕ) (rule : List ℕ) (s : List ℕ) (cs : List
   pub alike-search : (ds : List Call) → planOf cs ≡ planOf ds → (list : List ℕ) (r r₂ : Answer) (l l₂ : List ℕ)
       → SearchIs flag rule (planOf cs) list r l → SearchIs flag rule (planOf ds) list r₂ l₂ → (r ≡ r₂) × (l ≡ l₂)
 
+-- ---- a finished plan is never over the limit, so that its search is not refused by 10
+
+kept-small : (cs : List Call) (k : Kept) → length (k .taken) ≤ textLimit → length (keptAfter formLimit k cs .taken) ≤ textLimit
+kept-small [] k h = h
+kept-small (c ∷ cs) k h = go c (refusal formLimit (k .finished) (length (k .taken)) c) refl (kept-small cs)
+  where
+    go : (c : Call) (r : ℕ) → refusal formLimit (k .finished) (length (k .taken)) c ≡ r → ((k : Kept) → length (k .taken) ≤ textLimit → length (keptAfter formLimit k cs .taken) ≤ textLimit)
+        → length (keptAfter formLimit k (c ∷ cs) .taken) ≤ textLimit
+    go (feed piece n) zero q ih =
+        let l =
+        branch (k .finished) q (λ t e. absurd (omega arith)) λ t e.
+        branch (ltb textLimit (length (k .taken) + length piece)) e (λ t e. absurd (omega arith)) λ t e.
+        nltb→le textLimit (length (k .taken) + length piece) t
+        in
+        rw (q, keptAfter) (ih (after (feed piece n) k) (omega (arith, length-append (k .taken) piece)))
+    go (finish n) zero q ih = rw (q, keptAfter) (ih (after (finish n) k) h)
+    go c (suc n) q ih = rw (q, keptAfter) (ih k h)
+
+plan-small : (cs : List Call) → length (planOf cs) ≤ textLimit
+plan-small cs = omega (arith, kept-small cs nothingKept (omega arith), decode-length formLimit (keptAfter formLimit nothingKept cs .taken))
+
 module _ (flag : ℕ) (rule : List ℕ) (bytes : Bytes rule) (s₀ : List ℕ) (o : Opened) (s : List ℕ) (opens : OpenIs flag rule s₀ o s) (ok : o .number ≡ 0) where
   abbrev ps : List Position
   ps = rulePositions (foldFlag flag) rule
 
-  record Elements : Type 0 where
-    elements : List Element
-    parses : parse (foldFlag flag) rule ≡ accepted elements
+  opened : OpenedWith flag rule s
+  opened = opened-with flag rule s₀ o s opens ok
 
-  -- an opening with number 0 is of an accepted rule
-  accepted-by : (x : Parsed) → parse (foldFlag flag) rule ≡ x → o ≡ answerBy flag (length s₀) x → Elements
-  accepted-by (refused n p) e a =
-      let q : n ≡ 0 = sym (ap (λ (y : Opened). y .number) a) ∙ ok in
-      let one = refusal-row positionLimit (foldFlag flag) ruleLimit rule n p e .0 in
-      absurd (omega arith)
-  accepted-by (accepted es) e a = record { elements = es; parses = e }
+  -- what a search gives that is not refused
+  module _ (text list : List ℕ) (small : length text ≤ textLimit) (room : length text ≤ length list) (r : Answer) (list′ : List ℕ) (x : SearchIs flag rule text list r list′) where
+    taken : eqb (wholeRefusal (length text) (length list)) 0 ≡ true
+    taken = eq-eqb (wholeRefusal (length text) (length list)) 0 (rw (le-ltb _ _ small, le-ltb _ _ room))
 
-  is-accepted : Elements
-  is-accepted = accepted-by (parse (foldFlag flag) rule) refl (opens .answers)
+    by-positions : positions (foldFlag flag) (opened .elements) ≡ ps
+    by-positions = sym (ap (positionsBy (foldFlag flag)) (opened .parses))
 
-  -- what a search with number 0 gives
-  module _ (text list : List ℕ) (r : Answer) (list′ : List ℕ) (x : SearchIs flag rule text list r list′) (z : r .number ≡ 0) where
-    Gives : Type 0
-    Gives = (r .count ≡ length (starts ps text)) × (r .windows ≡ length (windows ps text)) × (list′ ≡ overwrite list (starts ps text))
-
-    by-whole : (b : Bool) → eqb (wholeRefusal (length text) (length list)) 0 ≡ b
-        → r ≡ cond b (answering 0 0 (length (starts ps text)) (length (windows ps text))) (answering (wholeRefusal (length text) (length list)) 0 0 0)
-        → list′ ≡ cond b (overwrite list (starts ps text)) list → Gives
-    unfolding Gives
-    by-whole true e a l = (ap (λ (y : Answer). y .count) a, ap (λ (y : Answer). y .windows) a, l)
-    by-whole false e a l = absurd (eqb-false (wholeRefusal (length text) (length list)) 0 e (sym (ap (λ (y : Answer). y .number) a) ∙ z))
-
-    gives : Gives
+    gives : (r ≡ answering 0 0 (length (starts ps text)) (length (windows ps text))) × (list′ ≡ overwrite list (starts ps text))
     gives =
-        let es = is-accepted in
-        let q : positions (foldFlag flag) (es .elements) ≡ ps = sym (ap (positionsBy (foldFlag flag)) (es .parses)) in
-        by-whole (eqb (wholeRefusal (length text) (length list)) 0) refl
-        (x .answers ∙ ap (searchAnswer flag text (length list)) (es .parses)
-        ∙ ap (λ (ps : List Position). cond (eqb (wholeRefusal (length text) (length list)) 0) (answering 0 0 (length (starts ps text)) (length (windows ps text))) (answering (wholeRefusal (length text) (length list)) 0 0 0)) q)
-        (x .lists ∙ ap (searchList flag text list) (es .parses) ∙ ap (λ (ps : List Position). cond (eqb (wholeRefusal (length text) (length list)) 0) (overwrite list (starts ps text)) list) q)
+        let qs = positions (foldFlag flag) (opened .elements) in (
+          x .answers ∙ ap (searchAnswer flag text (length list)) (opened .parses)
+              ∙ ap (λ (b : Bool). cond b (answering 0 0 (length (starts qs text)) (length (windows qs text))) (answering (wholeRefusal (length text) (length list)) 0 0 0)) taken
+              ∙ ap (λ (ps : List Position). answering 0 0 (length (starts ps text)) (length (windows ps text))) by-positions,
+          x .lists ∙ ap (searchList flag text list) (opened .parses) ∙ ap (λ (b : Bool). cond b (overwrite list (starts qs text)) list) taken
+              ∙ ap (λ (ps : List Position). overwrite list (starts ps text)) by-positions,
+        )
 
   module _ (cs : List Call) (pieces : PiecesAreBytes cs) where
     same : runFrom s cs ≡ plainScan flag rule cs
     same = scan-is-plain flag rule bytes cs pieces s₀ o s opens ok
 
     all-ends : isFinished cs → reportedEnds (runFrom s cs) ≡ ends ps (planOf cs)
-    all-ends f = ap reportedEnds same ∙ plan-ends flag rule (is-accepted .elements) bytes (is-accepted .parses) cs f
+    all-ends f = ap reportedEnds same ∙ plan-ends flag rule (opened .elements) bytes (opened .parses) cs f
 
     is-finished : isFinished cs → Finished flag rule s cs
-    unfolding Gives
     is-finished f =
         let e = all-ends f in
         record {
           ends-are = e;
           an-end = λ k. subst (λ (l : List ℕ). List·Memᴰ k l ↔ EndsAt ps (planOf cs) k) (sym e) (Decided.ends-are ps (planOf cs) k);
           ends-rise = subst (RisingFrom 0) (sym e) (Decided.ends-rise ps (planOf cs));
-          search = λ list r list′ x z. gives (planOf cs) list r list′ x z;
+          search = λ list r list′ x l. gives (planOf cs) list (plan-small cs) l r list′ x;
           a-start = λ k. Decided.starts-are ps (planOf cs) k;
           starts-rise = Decided.starts-rise ps (planOf cs);
         }
@@ -131,7 +135,7 @@ module _ (flag : ℕ) (rule : List ℕ) (bytes : Bytes rule) (s₀ : List ℕ) (
 
   pub nothing-parts : (cs : List Call) → PiecesAreBytes cs → NothingParts flag rule s cs
   nothing-parts cs b =
-      let k = rule-ok (foldFlag flag) rule (is-accepted .elements) bytes (is-accepted .parses) in
+      let k = rule-ok (foldFlag flag) rule (opened .elements) bytes (opened .parses) in
       record {
         answers = same cs b;
         finished = is-finished cs b;

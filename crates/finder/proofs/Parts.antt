@@ -10,20 +10,22 @@ use lib.Dec.{T, lt→ltb}
 use lib.ListN.{length, getD}
 use borrow.Author.Tests.{eq-eqb, ne-eqb, lt-ltb, le-ltb}
 use Rattle.model.specs.Occurrence.{Position, all, shortest, starts}
-use Rattle.model.specs.RuleText.{foldFlag, isByte, positions}
+use Rattle.model.specs.RuleText.{foldFlag, positionLimit, isByte, positions}
 use Rattle.model.specs.NumberedAnswers.{textLimit, Parsed, refused, accepted, parse, positionsBy, rulePositions, wholeRefusal, overwrite}
 use Rattle.model.specs.WindowSearch.{windows}
 use Rattle.model.proofs.Truth.{and-intro}
-use Rattle.model.proofs.Accepted.{rule-ok, shortest-length}
+use Rattle.model.proofs.Accepted.{RuleOk, rule-ok, shortest-length}
 use Rattle.words.specs.Masks.{Encodes}
 use Rattle.references.specs.declared.Answer.{Answer}
 use Rattle.rules.specs.declared.Prepared.{Prepared}
 use Rattle.rules.specs.Preparing.{preparedBy, prepared, Prepares}
 use Rattle.rules.specs.Tables.{Fillable, Filled}
 use Rattle.rules.proofs.Encoded.{is-accepted, may-fill, positions-are, shortest-is, encodes-forwards, encodes-reversed}
+use Rattle.windows.specs.Reading.{Tables}
 use Rattle.searches.specs.declared.Rule.{Rule}
 use Rattle.searches.specs.declared.Found.{Found}
 use Rattle.searches.specs.Searching.{RuleFits, RuleOf, SearchFits, SearchedIs}
+use Rattle.finder.specs.Preparing.{prepareAnswer, PrepareIs}
 use Rattle.finder.specs.Searching.{answering, searchAnswer, searchList, SearchIs, WholeIs, PreparedIs, Ready, WorkIs}
 
 -- what the elements of a slice of bytes are
@@ -44,6 +46,27 @@ module _ (text lent : ℕ) where
     pub whole-0 : text ≤ lent → WholeIs text lent 0
     whole-0 l = record { is = rw (le-ltb _ _ h, le-ltb _ _ l); small = λ z. h; room = λ z. l }
 
+-- ---- a prepared rule and its tables
+
+module _ (flag : ℕ) (rule : List ℕ) (p : Prepared) (hp : Prepares flag rule p) (z : p .number ≡ 0) where
+  abbrev ps : List Position
+  ps = rulePositions (foldFlag flag) rule
+
+  pub rule-is-ok : T (all isByte rule) → RuleOk positionLimit ps
+  rule-is-ok bytes = let a = is-accepted flag rule p hp z in rule-ok (foldFlag flag) rule (a .elements) bytes (a .parses)
+
+  module _ (q : Rule) (x : PreparedIs p q) (forward : List ℕ) (f : Filled flag rule false forward) where
+    pub on-top : q .forward .top ≡ length ps
+    on-top = x .on-top ∙ positions-are flag rule p hp z
+
+    pub onward : Encodes 64 ps (λ c. getD forward c 0) (q .forward .repeats) (q .forward .optional)
+    onward =
+        subst (λ (R : ℕ). Encodes 64 ps (λ c. getD forward c 0) R (q .forward .optional)) (sym (x .on-repeats))
+        (subst (λ (A : ℕ). Encodes 64 ps (λ c. getD forward c 0) (p .repeats) A) (sym (x .on-optional)) (encodes-forwards flag rule p hp z forward f))
+
+    pub on-fits : Tables forward (q .forward)
+    on-fits = record { long = f .long; top = omega (arith, x .on-top, hp .few) }
+
 -- ---- `search_accepted`
 
 module _ (flag : ℕ) (rule : List ℕ) (p : Prepared) (text listed : ℕ) (r : Ready flag rule p text listed) where
@@ -57,15 +80,11 @@ module _ (flag : ℕ) (rule : List ℕ) (p : Prepared) (text listed : ℕ) (r : 
   few = r .prepares .few
 
   module _ (bytes : T (all isByte rule)) (forward reversed : List ℕ) (q : Rule) (x : PreparedIs p q) (f : Filled flag rule false forward) (b : Filled flag rule true reversed) where
-    abbrev ps : List Position
-    ps = rulePositions (foldFlag flag) rule
-
-    rule-of : RuleOf ps forward reversed q
+    rule-of : RuleOf (rulePositions (foldFlag flag) rule) forward reversed q
     rule-of =
         let hp = r .prepares in
         let z = r .accepted in
-        let a = is-accepted flag rule p hp z in
-        let ok = rule-ok (foldFlag flag) rule (a .elements) bytes (a .parses) in
+        let ok = rule-is-ok flag rule p hp z bytes in
         record {
           mirrors = record {
             inhabited = ok .inhabited;
@@ -74,29 +93,30 @@ module _ (flag : ℕ) (rule : List ℕ) (p : Prepared) (text listed : ℕ) (r : 
             size = x .size ∙ shortest-is flag rule p hp z;
             backward = encodes-reversed flag rule p hp z reversed b (q .reversed .repeats) (q .reversed .optional) (x .back-repeats) (x .back-optional);
           };
-          top = x .on-top ∙ positions-are flag rule p hp z;
-          onward = subst (λ (R : ℕ). Encodes 64 ps (λ c. getD forward c 0) R (q .forward .optional)) (sym (x .on-repeats)) (subst (λ (A : ℕ). Encodes 64 ps (λ c. getD forward c 0) (p .repeats) A) (sym (x .on-optional)) (encodes-forwards flag rule p hp z forward f));
+          top = on-top flag rule p hp z q x forward f;
+          onward = onward flag rule p hp z q x forward f;
         }
 
     pub rule-fits : RuleFits forward reversed q
     rule-fits =
         let m = rule-of in
-        let s : q .shortest ≡ shortest ps = m .mirrors .size in
+        let s : q .shortest ≡ shortest (rulePositions (foldFlag flag) rule) = m .mirrors .size in
         let o = m .mirrors .some in
         let n = r .prepares .few in
-        let on = x .on-top in
         let back = x .back-top in
-        let w = shortest-length ps in
+        let w = shortest-length (rulePositions (foldFlag flag) rule) in
         record {
-          on = record { long = f .long; top = omega arith };
-          back = record { long = b .long; top = omega arith };
-          some = omega arith;
-          small = omega (arith, w, positions-are flag rule p (r .prepares) (r .accepted));
+          on = on-fits flag rule p (r .prepares) (r .accepted) q x forward f;
+          backs = record {
+            back = record { long = b .long; top = omega arith };
+            some = omega arith;
+            small = omega (arith, w, positions-are flag rule p (r .prepares) (r .accepted));
+          };
         }
 
     module _ (tx l₀ : List ℕ) (et : length tx ≡ text) (el : length l₀ ≡ listed) (g : Found) (l : List ℕ) (y : SearchedIs forward reversed q tx l₀ g l) where
       pub work-done : WorkIs flag rule tx l₀ (answering 0 0 (g .count) (g .windows)) l
-      work-done = let m = y .means ps rule-of in record { answers = ap₂ (answering 0 0) (m .count) (m .windows); lists = m .list }
+      work-done = let m = y .means (rulePositions (foldFlag flag) rule) rule-of in record { answers = ap₂ (answering 0 0) (m .count) (m .windows); lists = m .list }
 
 -- ---- `search`
 
@@ -131,3 +151,15 @@ module _ (flag : ℕ) (rule text list : List ℕ) (p : Prepared) (hp : Prepares 
           answers = rw (h .parses, b) (x .answers ∙ ap (λ (ps : List Position). answering 0 0 (length (starts ps text)) (length (windows ps text))) q);
           lists = rw (h .parses, b) (x .lists ∙ ap (λ (ps : List Position). overwrite list (starts ps text)) q);
         }
+
+-- ---- `jazhuppe_prepare`
+
+by-rule : (flag : ℕ) (x : Parsed) (p : Prepared) → p ≡ preparedBy (foldFlag flag) x
+    → record { number = p .number; place = p .place; positions = p .positions; shortest = p .shortest } ≡ prepareAnswer flag x
+by-rule flag (refused n q) p e = rw e
+by-rule flag (accepted es) p e = rw e
+
+pub prepare-answers : {flag : ℕ} {rule : List ℕ} {p : Prepared} → Prepares flag rule p
+    → PrepareIs flag rule (record { number = p .number; place = p .place; positions = p .positions; shortest = p .shortest })
+unfolding prepared
+prepare-answers {flag} {rule} {p} hp = by-rule flag (parse (foldFlag flag) rule) p (hp .is)

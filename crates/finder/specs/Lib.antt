@@ -1,2 +1,4 @@
 -- What the contracts cite.
+pub mod Preparing
 pub mod Searching
+pub mod Showing

@@ -1,13 +1,17 @@
 // The finder's calls.
 ghost use mathlib.Core.Path.{_≡_};
-ghost use Prim.Native.Nat.{_<_, _≤_, _^_};
+ghost use Prim.Native.Nat.{_<_, _≤_};
 ghost use lib.ListN.{length};
-ghost use Rattle.model.specs.NumberedAnswers.{wholeRefusal};
 ghost use Rattle.finder.specs.Searching.{answering, WholeIs, Ready, PreparedIs, WorkIs, SearchIs};
+ghost use Rattle.finder.specs.Showing.{Showable, PartIs, ShownIs, shownBytes};
+
+pub mod exports;
+
 use references::Answer;
 use rules::Prepared;
 use searches::Rule;
-use windows::Masks;
+use searches::Span;
+use stepping::Masks;
 
 // The number of the refusal of a call on a whole text with a list of so many entries, or 0.
 fn whole(text: usize, list: usize) -> u32
@@ -90,4 +94,46 @@ pub fn search(rule: &[u8], fold: u32, text: &[u8], starts: &mut [u32]) -> Answer
         return answer(number, 0, 0, 0);
     }
     search_accepted(rule, fold, p, text, starts)
+}
+
+// The work of showing, for an accepted rule.
+fn span_accepted(rule: &[u8], fold: u32, p: Prepared, text: &[u8], start: usize) -> Span
+    requires { ⌜ Showable fold (now rule) p (length (now text)) start ⌝ }
+    ensures { λ r. ⌜ PartIs fold (now (rule .entry)) (now (text .entry)) start r ⌝ }
+{
+    let total = p.positions;
+    let prepared = rule_of(p);
+    let mut forward = [0u64; 256];
+    rules::tables::fill(rule, fold, total, &mut forward, false);
+    let on = prepared.forward;
+    searches::part_from(&forward, on, text, start)
+}
+
+// The part of the text that is shown, as its two places.
+fn span(rule: &[u8], fold: u32, text: &[u8], start: usize) -> Span
+    ensures { λ r. ⌜ ShownIs fold (now (rule .entry)) (now (text .entry)) start r ⌝ }
+{
+    let len = text.len();
+    let p = rules::prepare(rule, fold);
+    if p.number != 0 {
+        return Span { from: len, to: len };
+    }
+    if len > 0xffff_ffff {
+        return Span { from: len, to: len };
+    }
+    if start > len {
+        return Span { from: len, to: len };
+    }
+    span_accepted(rule, fold, p, text, start)
+}
+
+// Shows an occurrence: that part of the caller's text from the start to the earliest end there, or the
+// empty part at the text's end.
+pub fn show<'a>(rule: &[u8], fold: u32, text: &'a [u8], start: usize) -> &'a [u8]
+    ensures { λ r. ⌜ now r ≡ shownBytes fold (now (rule .entry)) (now (text .entry)) start ⌝ }
+{
+    let s = span(rule, fold, text, start);
+    let from = s.from;
+    let to = s.to;
+    &text[from..to]
 }

@@ -60,7 +60,7 @@ admits-empty ps = (λ o. let l = occurs-length o in omega arith, into ps)
 
 -- ---- lists
 
-take-drop : (n k : ℕ) (l : List ℕ) → take n (drop k l) ≡ drop k (take (k + n) l)
+pub take-drop : (n k : ℕ) (l : List ℕ) → take n (drop k l) ≡ drop k (take (k + n) l)
 take-drop n zero l = ap (λ (i : ℕ). take i l) (sym (zero-add n))
 take-drop n (suc k) [] = take-nil n ∙ sym (ap (λ (l : List ℕ). drop (suc k) l) (take-nil (suc k + n)))
 take-drop n (suc k) (x ∷ l) = take-drop n k l ∙ sym (ap (λ (i : ℕ). drop (suc k) (take i (x ∷ l))) (suc-add k n))

@@ -1,8 +1,7 @@
 // The table of a rule: for each byte the mask of the positions that admit it. Forwards position i stands at bit i, reversed at bit n + 1 - i,
 // n being the number of positions. A lent table has 256 entries.
 ghost use mathlib.Core.Path.{_≡_};
-ghost use mathlib.Core.Bool.{Bool, true};
-ghost use Prim.Native.Nat.{_≤_, _<_, _+_};
+ghost use Prim.Native.Nat.{_<_, _+_};
 ghost use lib.ListN.{length};
 ghost use Rattle.elements.specs.Reading.{sizeOf};
 ghost use Rattle.rules.specs.Tables.{Cleared, Gains, always, hasByte, inSet, admitsBy, Room, slotBits, Placed, Fillable, Filled, mirror};
@@ -48,22 +47,15 @@ fn admit_class(table: &mut [u64], set: [u64; 4], bits: u64)
     }
 }
 
-// A byte as an index.
-fn index(c: u8) -> usize
-    ensures { λ r. ⌜ (r ≡ c) × (r < 256) ⌝ }
-{
-    c as usize
-}
-
 // The entry of one byte gains the bits, and with the fold flag set that of its other case: no loop.
 fn admit_byte(table: &mut [u64], b: u8, fold: bool, bits: u64)
     requires { ⌜ length (now table) ≡ 256 ⌝ }
     ensures { λ r. ⌜ Gains (hasByte fold b) bits (now (table .entry)) (now (table .exit)) ⌝ }
 {
-    let i = index(b);
+    let i = looks::index(b);
     let own = table[i] | bits;
     if fold {
-        let o = index(byte_sets::other_case(i));
+        let o = looks::index(byte_sets::other_case(i));
         table[o] = table[o] | bits;
         table[i] = own;
         return;

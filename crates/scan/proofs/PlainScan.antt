@@ -299,6 +299,29 @@ module _ (ps : List Position) where
         runs-agree (tableOf ps) masks some few cs (openingOf ps) (opened (opening 64 (optionalMask ps))) b opening-mirrors
         ∙ words-are-plain 64 ps (λ c. getD (tableOf ps) c 0) (repeatsMask ps) (optionalMask ps) e formLimit cs
 
+-- What an opening with number 0 was of, and what it left.
+pub record OpenedWith (flag : ℕ) (rule s′ : List ℕ) : Type 0 where
+  pub elements : List Element
+  pub parses : parse (foldFlag flag) rule ≡ accepted elements
+  pub leaves : s′ ≡ openingOf (positions (foldFlag flag) elements)
+
+module _ (flag : ℕ) (rule s : List ℕ) (r : Opened) (s′ : List ℕ) where
+  by-length : (b : Bool) (es : List Element) → parse (foldFlag flag) rule ≡ accepted es
+      → r ≡ cond b (record { number = 0; place = 0; positions = length (positions (foldFlag flag) es); shortest = shortest (positions (foldFlag flag) es) }) (record { number = 11; place = 0; positions = 0; shortest = 0 })
+      → s′ ≡ cond b (openingOf (positions (foldFlag flag) es)) s → r .number ≡ 0 → OpenedWith flag rule s′
+  by-length true es e a l z = record { elements = es; parses = e; leaves = l }
+  by-length false es e a l z = absurd (omega (arith, sym (ap (λ (o : Opened). o .number) a) ∙ z))
+
+  by-rule : (x : Parsed) → parse (foldFlag flag) rule ≡ x → r ≡ answerBy flag (length s) x → s′ ≡ leftBy flag s x → r .number ≡ 0 → OpenedWith flag rule s′
+  by-rule (turned-down n p) e a l z =
+      let q : n ≡ 0 = sym (ap (λ (o : Opened). o .number) a) ∙ z in
+      let one = refusal-row positionLimit (foldFlag flag) ruleLimit rule n p e .0 in
+      absurd (omega arith)
+  by-rule (accepted es) e a l z = by-length (eqb (length s) scanLength) es e a l z
+
+  pub opened-with : OpenIs flag rule s r s′ → r .number ≡ 0 → OpenedWith flag rule s′
+  opened-with o z = by-rule (parse (foldFlag flag) rule) refl (o .answers) (o .leaves) z
+
 module _ (flag : ℕ) (rule : List ℕ) (bytes : Bytes rule) (cs : List Call) (pieces : PiecesAreBytes cs) where
   accepted-opens : (es : List Element) → parse (foldFlag flag) rule ≡ accepted es → runFrom (openingOf (positions (foldFlag flag) es)) cs ≡ plainScan flag rule cs
   accepted-opens es e =
@@ -314,21 +337,6 @@ module _ (flag : ℕ) (rule : List ℕ) (bytes : Bytes rule) (cs : List Call) (p
         is-optional = refl;
       }) cs pieces
 
-  module _ (s : List ℕ) (r : Opened) (s′ : List ℕ) where
-    by-length : (b : Bool) (es : List Element) → parse (foldFlag flag) rule ≡ accepted es
-        → r ≡ cond b (record { number = 0; place = 0; positions = length (positions (foldFlag flag) es); shortest = shortest (positions (foldFlag flag) es) }) (record { number = 11; place = 0; positions = 0; shortest = 0 })
-        → s′ ≡ cond b (openingOf (positions (foldFlag flag) es)) s → r .number ≡ 0 → runFrom s′ cs ≡ plainScan flag rule cs
-    by-length true es e a l z = ap (λ (s : List ℕ). runFrom s cs) l ∙ accepted-opens es e
-    by-length false es e a l z = absurd (omega (arith, sym (ap (λ (o : Opened). o .number) a) ∙ z))
-
-    by-rule : (x : Parsed) → parse (foldFlag flag) rule ≡ x → r ≡ answerBy flag (length s) x → s′ ≡ leftBy flag s x → r .number ≡ 0 → runFrom s′ cs ≡ plainScan flag rule cs
-    by-rule (turned-down n p) e a l z =
-        let q : n ≡ 0 = sym (ap (λ (o : Opened). o .number) a) ∙ z in
-        let row = refusal-row positionLimit (foldFlag flag) ruleLimit rule n p e in
-        let one = row .0 in
-        absurd (omega arith)
-    by-rule (accepted es) e a l z = by-length (eqb (length s) scanLength) es e a l z
-
-    -- "every answer, refusal or ends": from what an accepted opening left, each call handed what the one before it left.
-    pub scan-is-plain : OpenIs flag rule s r s′ → r .number ≡ 0 → runFrom s′ cs ≡ plainScan flag rule cs
-    scan-is-plain o z = by-rule (parse (foldFlag flag) rule) refl (o .answers) (o .leaves) z
+  -- "every answer, refusal or ends": from what an accepted opening left, each call handed what the one before it left.
+  pub scan-is-plain : (s : List ℕ) (r : Opened) (s′ : List ℕ) → OpenIs flag rule s r s′ → r .number ≡ 0 → runFrom s′ cs ≡ plainScan flag rule cs
+  scan-is-plain s r s′ o z = let w = opened-with flag rule s r s′ o z in ap (λ (s : List ℕ). runFrom s cs) (w .leaves) ∙ accepted-opens (w .elements) (w .parses)

@@ -10,7 +10,8 @@ use references::Answer;
 use references::Held;
 use rules::Prepared;
 
-// What an opening answers.
+// What preparing a rule, or an opening, answers.
+#[repr(C)]
 pub struct Opened {
     pub number: u32,
     pub place: u32,

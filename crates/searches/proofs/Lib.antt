@@ -2,3 +2,4 @@
 pub mod Rests
 pub mod Tries
 pub mod Searches
+pub mod Shows

@@ -1,7 +1,7 @@
 -- The starts from a window on, and how a move leads from those of one window to those of the next. Assumes nothing.
 use mathlib.Core.Path.{_≡_, refl, sym, ap, subst, _∙_}
 use mathlib.Core.Bool.{Bool, false}
-use mathlib.Core.List.{List, [], _++_, append-nil}
+use mathlib.Core.List.{List, _++_, append-nil}
 use Prim.Native.Nat.{ℕ, zero, suc, _+_, _-_, _≤_, _<_}
 use native.Mathlib.Nat.{add-zero, zero-add}
 use native.Mathlib.Omega.{arith}
@@ -39,12 +39,6 @@ module _ (ps : List Position) (inhabited : Inhabited ps) (some : 1 ≤ shortest 
 
   none-late : (s : ℕ) → length text < s + shortest ps → isStart ps text s ≡ false
   none-late s h = T-false (isStart ps text s) (λ t. let l = start-fits s (start-decided ps text s .0 t) in omega arith)
-
-  -- past the last window there is none
-  pub rest-stop : (w : ℕ) → length text < w + shortest ps → restStarts ps text w ≡ []
-  rest-stop w h =
-      ap (allFrom (isStart ps text) w) (sym (add-zero (suc (length text) - w)))
-      ∙ all-skip (isStart ps text) (suc (length text) - w) w 0 (λ x a b. none-late x (omega arith))
 
   -- the text's end is no start
   pub rest-back : (w : ℕ) → w ≤ length text → allFrom (isStart ps text) w (length text - w) ≡ restStarts ps text w

@@ -13,7 +13,7 @@ use Rattle.model.proofs.Truth.{T-true, T-false}
 use Rattle.model.proofs.Decided.{start-decided}
 use Rattle.model.proofs.Windows.{occurs-length, starts-are-verified}
 use Rattle.words.specs.Masks.{Encodes}
-use Rattle.windows.specs.declared.Masks.{Masks}
+use Rattle.stepping.specs.declared.Masks.{Masks}
 use Rattle.windows.specs.declared.Seen.{Seen}
 use Rattle.windows.specs.declared.End.{End}
 use Rattle.windows.specs.declared.End.the-variants.{At, Dead, Open}
@@ -47,6 +47,9 @@ module _ {t : List ℕ} {m : Masks} {text : List ℕ} {w stop : ℕ} {x : End} (
 
   pub at-low : {e : ℕ} → x ≡ At e → w ≤ e
   at-low q = omega (arith, at-within q)
+
+  pub at-high : {e : ℕ} → x ≡ At e → e ≤ stop
+  at-high q = at-within q .1
 
   pub dead-low : {e : ℕ} → x ≡ Dead e → w ≤ e
   dead-low q = omega (arith, dead-within q)

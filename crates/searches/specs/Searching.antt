@@ -7,23 +7,28 @@ use lib.ListN.{length, getD}
 use lib.Seq.{sets}
 use Rattle.model.specs.Occurrence.{Position, shortest, allFrom, isStart, starts}
 use Rattle.model.specs.NumberedAnswers.{overwrite}
-use Rattle.model.specs.WindowSearch.{Inhabited, windowAt, shift, windowsFrom, windows}
+use Rattle.model.specs.WindowSearch.{Inhabited, windowAt, shift, windowsFrom, windows, partFrom}
+use Rattle.model.specs.WindowSearch as WindowSearch
 use Rattle.words.specs.Masks.{Encodes}
-use Rattle.windows.specs.declared.Masks.{Masks}
+use Rattle.stepping.specs.declared.Masks.{Masks}
 use Rattle.windows.specs.Reading.{Tables}
 use Rattle.searches.specs.declared.Rule.{Rule}
 use Rattle.searches.specs.declared.Tried.{Tried}
 use Rattle.searches.specs.declared.Tried.the-variants.{Start, Empty, Spent}
 use Rattle.searches.specs.declared.Part.{Part}
 use Rattle.searches.specs.declared.Found.{Found}
+use Rattle.searches.specs.declared.Span.{Span}
 
 -- ---- a prepared rule
 
-pub record RuleFits (forward reversed : List ℕ) (rule : Rule) : Type 0 where
-  pub on : Tables forward (rule .forward)
+pub record BackFits (reversed : List ℕ) (rule : Rule) : Type 0 where
   pub back : Tables reversed (rule .reversed)
   pub some : 1 ≤ rule .shortest
   pub small : rule .shortest < 2 ^ 32
+
+pub record RuleFits (forward reversed : List ℕ) (rule : Rule) : Type 0 where
+  pub on : Tables forward (rule .forward)
+  pub backs : BackFits reversed rule
 
 -- Table and masks are those of the positions, for each direction.
 pub record Mirrors (ps : List Position) (reversed : List ℕ) (rule : Rule) : Type 0 where
@@ -122,3 +127,13 @@ pub record SearchedIs (forward reversed : List ℕ) (rule : Rule) (text l₀ : L
   pub tries : r .windows ≤ length text
   pub long : length l ≡ length l₀
   pub means : (ps : List Position) → RuleOf ps forward reversed rule → Searched ps text l₀ r l
+
+-- ---- the part that is shown
+
+abbrev pub spanOf : WindowSearch.Part → Span
+spanOf p = record { from = p .from; to = p .to }
+
+pub record SpanIs (forward : List ℕ) (m : Masks) (text : List ℕ) (s : ℕ) (r : Span) : Type 0 where
+  pub ordered : r .from ≤ r .to
+  pub inside : r .to ≤ length text
+  pub means : (ps : List Position) → Encodes 64 ps (λ c. getD forward c 0) (m .repeats) (m .optional) → m .top ≡ length ps → 1 ≤ shortest ps → r ≡ spanOf (partFrom ps text s)

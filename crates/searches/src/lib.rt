@@ -1,13 +1,12 @@
 // The window search over prepared tables. Verifying window after window takes quadratic time on some
 // texts. So it has a budget, and where that does not reach, the rest of the starts comes from two
 // readings of the text backwards. Starts, their order and the count of windows are the same either way.
-ghost use mathlib.Core.Path.{_≡_};
 ghost use Prim.Native.Nat.{_+_, _*_, _≤_, _<_, _^_};
 ghost use lib.ListN.{length};
 ghost use Rattle.windows.specs.Reading.{Tables};
-ghost use Rattle.searches.specs.Searching.{RuleFits, Spends, Allowed, CheckedIs, TriedIs, TriesIs, PartIs, SearchFits, SearchedIs};
+ghost use Rattle.searches.specs.Searching.{BackFits, RuleFits, Spends, Allowed, CheckedIs, TriedIs, TriesIs, PartIs, SearchFits, SearchedIs, SpanIs};
+use stepping::Masks;
 use windows::End;
-use windows::Masks;
 
 // A prepared rule, beside its two tables: its shortest length, and its masks in both directions.
 pub struct Rule {
@@ -35,6 +34,13 @@ pub struct Part {
 pub struct Found {
     pub count: usize,
     pub windows: usize,
+}
+
+// A part of a text, as its two places.
+#[repr(C)]
+pub struct Span {
+    pub from: usize,
+    pub to: usize,
 }
 
 // How far a verification from w may read: all verifying up to window w reads at most 2 w + 4096 bytes.
@@ -100,8 +106,8 @@ fn try_window(
 }
 
 // How many windows there are from window w on. Nothing is verified.
-fn count_windows(forward: &[u64], reversed: &[u64], rule: Rule, text: &[u8], w: usize) -> usize
-    requires { ⌜ RuleFits (now forward) (now reversed) rule ⌝ }
+fn count_windows(reversed: &[u64], rule: Rule, text: &[u8], w: usize) -> usize
+    requires { ⌜ BackFits (now reversed) rule ⌝ }
     requires { ⌜ w ≤ length (now text) ⌝ }
     requires { ⌜ length (now text) < 2 ^ 32 ⌝ }
     ensures { λ k. ⌜ TriesIs (now (reversed .entry)) rule (now (text .entry)) w k ⌝ }
@@ -191,11 +197,32 @@ pub fn search_tables(
     let back = rule.reversed;
     let next = p.next;
     let k = windows::write_rest(reversed, back, text, next, starts, p.count);
-    let z = count_windows(forward, reversed, rule, text, next);
+    let z = count_windows(reversed, rule, text, next);
     let count = p.count + k;
     let tried = p.windows + z;
     Found {
         count: count,
         windows: tried,
+    }
+}
+
+// The part of the text from s to the earliest end there, or the empty part at the text's end.
+pub fn part_from(forward: &[u64], m: Masks, text: &[u8], s: usize) -> Span
+    requires { ⌜ Tables (now forward) m ⌝ }
+    requires { ⌜ s ≤ length (now text) ⌝ }
+    ensures { λ r. ⌜ SpanIs (now (forward .entry)) m (now (text .entry)) s r ⌝ }
+{
+    let len = text.len();
+    let end = windows::verify(forward, m, text, s, len);
+    match end {
+        End::At(e) => {
+            return Span { from: s, to: e };
+        }
+        End::Dead(e) => {
+            return Span { from: len, to: len };
+        }
+        End::Open => {
+            return Span { from: len, to: len };
+        }
     }
 }

@@ -74,7 +74,7 @@ module _ (t : List ℕ) (m : Masks) (a b x y : ℕ) (h : Paired t (m .repeats) (
         go (yes q) = ap (λ (q : Bool). q && bit e (suc i)) (l i (omega arith))
         go (no q) = let r : i ≡ b = omega arith in rw r gone
 
-    step-plainly : stepN m d e ≡ plainly d e
+    step-plainly : stepN m 1 d e ≡ plainly d e
     unfolding stepN advance move plainly bit
     step-plainly =
         let small : d < 2 ^ (b + 1) = below-lt (b + 1) d l in
@@ -209,15 +209,15 @@ module _ (t : List ℕ) (m : Masks) (a b x y : ℕ) (h : Paired t (m .repeats) (
       let low : (bit e b && bit (entry j) (suc b)) ≡ false = ap (λ (p : Bool). p && bit (entry j) (suc b)) (n .under b l) in
       let eb : Below (b + 1) e = λ i p. n .under i (omega arith) in
       let eb′ : Below (b + 1) (plainly e (entry j)) = plainly-below t m a b x y h e (entry j) eb low in
-      let sd : stepN m d (entry j) ≡ plainly d (entry j) = step-plainly t m a b x y h d (entry j) (n .below) (dies j d e l n) in
-      let se : stepN m e (entry j) ≡ plainly e (entry j) = step-plainly t m a b x y h e (entry j) eb low in
+      let sd : stepN m 1 d (entry j) ≡ plainly d (entry j) = step-plainly t m a b x y h d (entry j) (n .below) (dies j d e l n) in
+      let se : stepN m 1 e (entry j) ≡ plainly e (entry j) = step-plainly t m a b x y h e (entry j) eb low in
       let i : k + j + 1 ≡ k + suc j = omega arith in
       let rest : Alike t m text (k + j + 1) (plainly d (entry j)) (plainly e (entry j)) =
       rw i (near-alike g (suc j) (plainly d (entry j)) (plainly e (entry j)) (omega arith) n′) in
       turned j d e (plainly d (entry j)) (plainly e (entry j)) (omega arith) sd se (quiet t m a b x y h (plainly d (entry j)) (n′ .below))
       (quiet t m a b x y h (plainly e (entry j)) eb′) rest
     where
-      turned : (j d e d′ e′ : ℕ) → k + j < length text → stepN m d (entry j) ≡ d′ → stepN m e (entry j) ≡ e′ → topBit (m .top) d′ ≡ false
+      turned : (j d e d′ e′ : ℕ) → k + j < length text → stepN m 1 d (entry j) ≡ d′ → stepN m 1 e (entry j) ≡ e′ → topBit (m .top) d′ ≡ false
           → topBit (m .top) e′ ≡ false
           → Alike t m text (k + j + 1) d′ e′ → Alike t m text (k + j) d e
       turned j d e d′ e′ = alike-turn t m text (k + j) d e d′ e′
@@ -237,7 +237,7 @@ module _ (t : List ℕ) (m : Masks) (a b x y : ℕ) (h : Paired t (m .repeats) (
       go : (i : ℕ) → (i ≡ 0 → ⊥) → 1 ≤ i
       go i p = omega arith
 
-  from-none : (e : ℕ) → stepN m 0 e ≡ 1
+  from-none : (e : ℕ) → stepN m 1 0 e ≡ 1
   unfolding plainly
   from-none e =
       step-plainly t m a b x y h 0 e (λ i p. none-bit i) (ap (λ (p : Bool). p && bit e (suc b)) (none-bit b)) ∙ ap (λ (n : ℕ). bitOr n 1) (and-zero-l e)
@@ -248,7 +248,7 @@ module _ (t : List ℕ) (m : Masks) (a b x y : ℕ) (h : Paired t (m .repeats) (
       let al : Alike t m text k 1 0 = rw add-zero at (near-alike (b + 1) 0 1 0 (add-zero (b + 1)) near-start) in
       let l : k < length text = omega arith in
       let z : topBit (m .top) 1 ≡ false = quiet t m a b x y h 1 (λ i p. one-above i (omega arith)) in
-      let s : stepN m 0 (getD t (getD text k 0) 0) ≡ 1 = from-none (getD t (getD text k 0) 0) in
+      let s : stepN m 1 0 (getD t (getD text k 0) 0) ≡ 1 = from-none (getD t (getD text k 0) 0) in
       record {
         fore = omega arith;
         within = omega arith;

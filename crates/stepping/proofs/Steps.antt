@@ -1,50 +1,164 @@
--- The step where it may be done by less: nothing to flood, or a byte that changes nothing; and that every step leaves an odd state. Assumes nothing.
-use mathlib.Core.Path.{_≡_, sym, ap, _∙_}
-use mathlib.Core.Bool.{Bool, _||_}
+-- The step where it may be done by less: nothing to flood, a byte that changes nothing, a state as a step leaves it. Assumes nothing.
+use mathlib.Core.Path.{_≡_, sym, ap, subst, _∙_}
+use mathlib.Core.Bool.{Bool, true, false, _||_}
 use Prim.Native.Nat.{ℕ, _-_, _*_, _%_, _^_, _<_}
 use native.Mathlib.Nat.{lt-of-le-of-lt}
 use native.Mathlib.Omega.{arith}
-use lib.Bits.{bitAnd, bitOr, bitXor, and-le-l}
-use Rattle.words.specs.Bit.{bit}
+use lib.Bits.{bitAnd, bitOr, bitXor, and-le-l, and-le-r, or-lt, and-zero-r}
+use lib.Dec.{T, eqb}
+use borrow.Author.Tests.{eqb-true}
+use Rattle.words.specs.Bit.{isSet, bit}
 use Rattle.words.specs.ForwardStep.{wrapSub, move, flood, advance, blockStarts, blockEnds, opening}
 use Rattle.words.proofs.Digits.{or-bit}
-use Rattle.words.proofs.Still.{flood-none, flood-still, move-lt, move-odd, move-none, bit-odd}
+use Rattle.words.proofs.Still.{flood-none, flood-lt, move-lt, move-odd, move-none, bit-odd}
+use Rattle.words.proofs.Settled.{flood-again, flood-home, flood-quiet, home-in, home-lt, has-beside}
 use Rattle.stepping.specs.declared.Masks.{Masks}
+use Rattle.stepping.specs.declared.Blocks.{Blocks}
 use Rattle.stepping.specs.Stepping.{stepN}
+use Rattle.stepping.specs.Settling.{BlocksOf, Settled, SettledIs, StepsTo}
 
 -- nothing is optional: the step is the move
-pub step-none : (m : Masks) (d b x : ℕ) → m .optional ≡ 0 → x ≡ move 64 d b (bitAnd b (m .repeats)) 1 → x ≡ stepN m d b
+pub step-none : (m : Masks) (k d b x : ℕ) → m .optional ≡ 0 → x ≡ move 64 d b (bitAnd b (m .repeats)) k → x ≡ stepN m k d b
 unfolding stepN advance
-step-none m d b x z e = e ∙ sym (flood-none 64 _ (blockStarts 64 0) (blockEnds 64 0)) ∙ rw z
-
--- the moved state touches nothing
-pub step-still : (m : Masks) (d b x i : ℕ) → b < 2 ^ 64 → m .optional < 2 ^ 64 → i ≡ blockStarts 64 (m .optional) → x ≡ move 64 d b (bitAnd b (m .repeats)) 1
-    → bitAnd x (bitOr (m .optional) i) ≡ 0 → x ≡ stepN m d b
-unfolding stepN advance
-step-still m d b x i hb ha ei e z =
-    let q : bitAnd (move 64 d b (bitAnd b (m .repeats)) 1) (bitOr (m .optional) (blockStarts 64 (m .optional))) ≡ 0 = rw (← e, ← ei) z in
-    e ∙ sym (flood-still 64 (move 64 d b (bitAnd b (m .repeats)) 1) (m .optional)
-    (move-lt 64 d b (bitAnd b (m .repeats)) hb (lt-of-le-of-lt (and-le-l b (m .repeats)) hb) (omega arith)) ha (move-odd 64 d b (bitAnd b (m .repeats))) q)
-
--- it touches, and is flooded
-pub step-flood : (m : Masks) (d b x i f r : ℕ) → i ≡ blockStarts 64 (m .optional) → f ≡ blockEnds 64 (m .optional) → x ≡ move 64 d b (bitAnd b (m .repeats)) 1
-    → r ≡ flood 64 x (m .optional) i f → r ≡ stepN m d b
-unfolding stepN advance
-step-flood m d b x i f r ei ef e er = er ∙ rw (e, ei, ef)
+step-none m k d b x z e = e ∙ sym (flood-none 64 _ (blockStarts 64 0) (blockEnds 64 0)) ∙ rw z
 
 -- the opening state stays at a byte whose entry has none of its follow-up
 pub stays : (m : Masks) (home next b : ℕ) → home ≡ opening 64 (m .optional) → next ≡ bitOr (home * 2 % 2 ^ 64) (bitAnd home (m .repeats))
-    → bitAnd b next ≡ 0 → stepN m home b ≡ home
+    → bitAnd b next ≡ 0 → stepN m 1 home b ≡ home
 unfolding stepN advance opening
 stays m home next b eh en z =
     let q : move 64 home b (bitAnd b (m .repeats)) 1 ≡ 1 = move-none home b (m .repeats) (rw (← en) z) in
     rw q (sym eh)
 
--- every step leaves an odd state
-pub step-odd : (m : Masks) (d b x : ℕ) → x ≡ stepN m d b → x % 2 ≡ 1
-unfolding stepN advance flood
+-- an odd state stays odd in the flood, and so every step leaves one
+flood-odd : (w d a i f : ℕ) → bit d 0 ≡ true → bit (flood w d a i f) 0 ≡ true
+unfolding flood
+flood-odd w d a i f e =
+    let g : ℕ = bitAnd a (bitXor ((2 ^ w - 1) - wrapSub w (bitOr d f) i) (bitOr d f)) in
+    or-bit d g 0 ∙ ap (λ (p : Bool). p || bit g 0) e
+
+step-odd : (m : Masks) (d b x : ℕ) → x ≡ stepN m 1 d b → x % 2 ≡ 1
+unfolding stepN advance
 step-odd m d b x e =
     let v : ℕ = move 64 d b (bitAnd b (m .repeats)) 1 in
-    let f : ℕ = bitOr v (blockEnds 64 (m .optional)) in
-    let g : ℕ = bitAnd (m .optional) (bitXor ((2 ^ 64 - 1) - wrapSub 64 f (blockStarts 64 (m .optional))) f) in
-    rw e (bit-odd (bitOr v g) (or-bit v g 0 ∙ ap (λ (p : Bool). p || bit g 0) (move-odd 64 d b (bitAnd b (m .repeats)))))
+    let i = blockStarts 64 (m .optional) in
+    let f = blockEnds 64 (m .optional) in
+    rw e (bit-odd (flood 64 v (m .optional) i f) (flood-odd 64 v (m .optional) i f (move-odd 64 d b (bitAnd b (m .repeats)))))
+
+-- ---- a settled state
+
+even-bit : (x : ℕ) → x % 2 ≡ 0 → bit x 0 ≡ false
+unfolding bit
+even-bit x e = ap isSet e
+
+odd-bit : (x : ℕ) → x % 2 ≡ 1 → bit x 0 ≡ true
+unfolding bit
+odd-bit x e = ap isSet e
+
+-- every step leaves one
+pub step-settles : (m : Masks) (d b x : ℕ) → m .optional % 2 ≡ 0 → m .optional < 2 ^ 64 → b < 2 ^ 64 → x ≡ stepN m 1 d b → Settled m x
+unfolding stepN advance
+step-settles m d b x even word hb e =
+    let a = m .optional in
+    let y = move 64 d b (bitAnd b (m .repeats)) 1 in
+    let hy : y < 2 ^ 64 = move-lt 64 d b (bitAnd b (m .repeats)) 1 hb (lt-of-le-of-lt (and-le-l b (m .repeats)) hb) (omega arith) in
+    record {
+      even = even;
+      word = word;
+      small = rw e (flood-lt 64 y a (blockStarts 64 a) (blockEnds 64 a) hy word);
+      odd = step-odd m d b x e;
+      flooded = rw e (flood-again 64 a word (even-bit a even) y hy);
+    }
+
+module _ (m : Masks) (q : Blocks) (of : BlocksOf (m .optional) q) {d : ℕ} (s : Settled m d) where
+  abbrev washed : ℕ → ℕ
+  washed x = flood 64 x (m .optional) (blockStarts 64 (m .optional)) (blockEnds 64 (m .optional))
+
+  pub has-home : bitAnd d (q .home) ≡ q .home
+  has-home = rw (of .home) (home-in 64 (m .optional) (s .word) (even-bit (m .optional) (s .even)) (omega arith) d (s .small) (odd-bit d (s .odd)) (s .flooded))
+
+  module _ {b x : ℕ} (hb : b < 2 ^ 64) (ex : x ≡ move 64 d b (bitAnd b (m .repeats)) (q .home)) where
+    y : ℕ
+    y = bitOr (bitAnd (d * 2 % 2 ^ 64) b) (bitAnd d (bitAnd b (m .repeats)))
+
+    y-lt : y < 2 ^ 64
+    unfolding y
+    y-lt =
+        or-lt 64 (bitAnd (d * 2 % 2 ^ 64) b) (bitAnd d (bitAnd b (m .repeats))) (lt-of-le-of-lt (and-le-r (d * 2 % 2 ^ 64) b) hb)
+        (lt-of-le-of-lt (and-le-r d (bitAnd b (m .repeats))) (lt-of-le-of-lt (and-le-l b (m .repeats)) hb))
+
+    x-is : x ≡ bitOr y (opening 64 (m .optional))
+    unfolding y move
+    x-is = ex ∙ ap (bitOr (bitOr (bitAnd (d * 2 % 2 ^ 64) b) (bitAnd d (bitAnd b (m .repeats))))) (of .home)
+
+    x-lt : x < 2 ^ 64
+    x-lt = rw x-is (or-lt 64 y (opening 64 (m .optional)) y-lt (home-lt 64 (m .optional) (s .word) (even-bit (m .optional) (s .even)) (omega arith)))
+
+    -- the step is the flood of x
+    by-flood : washed x ≡ stepN m 1 d b
+    unfolding stepN advance y move
+    by-flood = ap washed x-is ∙ flood-home 64 (m .optional) (s .word) (even-bit (m .optional) (s .even)) (omega arith) y y-lt
+
+    settles : {r : ℕ} → r ≡ stepN m 1 d b → StepsTo m d b r
+    settles {r} e = record { is = e; settles = step-settles m d b r (s .even) (s .word) hb e }
+
+    -- x touches nothing
+    pub step-still : bitAnd x (q .touch) ≡ 0 → StepsTo m d b x
+    step-still z =
+        let has : bitAnd x (opening 64 (m .optional)) ≡ opening 64 (m .optional) = rw x-is (has-beside y (opening 64 (m .optional))) in
+        settles (sym (flood-quiet 64 (m .optional) (s .word) (even-bit (m .optional) (s .even)) (omega arith) x x-lt has (rw (← of .touch) z)) ∙ by-flood)
+
+    pub step-plain : q .touch ≡ 0 → StepsTo m d b x
+    step-plain z = step-still (ap (bitAnd x) z ∙ and-zero-r x)
+
+    -- x is the state before
+    pub step-same : x ≡ d → StepsTo m d b d
+    step-same e = settles (sym (s .flooded) ∙ ap washed (sym e) ∙ by-flood)
+
+    pub step-flood : {r : ℕ} → r ≡ flood 64 x (m .optional) (q .first) (q .last) → StepsTo m d b r
+    step-flood {r} e = settles (e ∙ rw (of .first, of .last) by-flood)
+
+-- ---- `is_settled`
+
+pub settled : (m : Masks) (q : Blocks) (d f : ℕ) → BlocksOf (m .optional) q → m .optional < 2 ^ 64 → d < 2 ^ 64 → m .optional % 2 ≡ 0 → d % 2 ≡ 1
+    → f ≡ flood 64 d (m .optional) (q .first) (q .last) → {r : Bool} → r ≡ eqb f d → SettledIs m d r
+settled m q d f of word small even odd e {r} er = record {
+  says = λ t. record {
+    even = even;
+    word = word;
+    small = small;
+    odd = odd;
+    flooded = rw (← of .first, ← of .last) (sym e ∙ eqb-true f d (sym er ∙ t));
+  };
+}
+
+-- the opening state is one
+pub home-settled : (m : Masks) (q : Blocks) (d : ℕ) → BlocksOf (m .optional) q → m .optional < 2 ^ 64 → m .optional % 2 ≡ 0 → d ≡ q .home → SettledIs m d true
+unfolding opening
+home-settled m q d of word even e =
+    let a = m .optional in
+    let k : d ≡ flood 64 1 a (blockStarts 64 a) (blockEnds 64 a) = e ∙ of .home in
+    record {
+      says = λ t. record {
+        even = even;
+        word = word;
+        small = rw k (flood-lt 64 1 a (blockStarts 64 a) (blockEnds 64 a) (omega arith) word);
+        odd = rw k (bit-odd (flood 64 1 a (blockStarts 64 a) (blockEnds 64 a)) (flood-odd 64 1 a (blockStarts 64 a) (blockEnds 64 a) (odd-bit 1 (omega arith))));
+        flooded = rw k (flood-again 64 a word (even-bit a even) 1 (omega arith));
+      };
+    }
+
+pub unsettled : (m : Masks) (d : ℕ) → SettledIs m d false
+unsettled m d = record { says = λ t. absurd (no t) }
+  where
+    no : false ≡ true → ⊥
+    no p = subst (λ (b : Bool). T b) (sym p) tt
+
+pub settled-by : {m : Masks} {d : ℕ} {r : Bool} → SettledIs m d r → r ≡ true → Settled m d
+settled-by s t = s .says t
+
+-- ---- `blocks_of`
+
+pub blocks-are : {optional home first last : ℕ} → home ≡ opening 64 optional → first ≡ blockStarts 64 optional → last ≡ blockEnds 64 optional
+    → BlocksOf optional (record { home = home; first = first; last = last; touch = bitAnd (bitOr optional first) ((2 ^ 64 - 1) - home) })
+blocks-are {optional} eh ef el = record { home = eh; first = ef; last = el; touch = rw (eh, ef) }

@@ -3,7 +3,7 @@
 use mathlib.Core.Path.{_≡_, refl, sym, ap, _∙_}
 use mathlib.Core.List.{List, [], _∷_, _++_}
 use mathlib.Core.Bool.{Bool, true, false}
-use Prim.Native.Nat.{ℕ, zero, suc, _+_, _-_, _%_, _^_, _≤_, _<_}
+use Prim.Native.Nat.{ℕ, zero, suc, _+_, _-_, _^_, _≤_, _<_}
 use native.Mathlib.Numerals.{add-one}
 use native.Mathlib.Nat.{zero-add, add-zero}
 use native.Mathlib.Omega.{arith}
@@ -16,7 +16,7 @@ use Rattle.stepping.specs.declared.Masks.{Masks}
 use Rattle.stepping.specs.declared.Spot.{Spot}
 use Rattle.stepping.specs.Stepping.{stepOn, stateAfter, endsIn, Scanned}
 use Rattle.stepping.specs.Walking.{Going, Walked, Passed, Room}
-use Rattle.stepping.proofs.Steps.{step-odd}
+use Rattle.stepping.specs.Settling.{Settled, StepsTo}
 
 -- one turn of each definition
 module _ (t : List ℕ) (m : Masks) (d at : ℕ) (text : List ℕ) (i : ℕ) (h : i < length text) where
@@ -110,29 +110,29 @@ module _ {t : List ℕ} {m : Masks} {text ends₀ ends : List ℕ} {d₀ at₀ n
     list = k .list ∙ g .list;
   }
 
--- ---- a walk, whose states are odd
+-- ---- a walk, whose states are settled
 
 pub record Strolling (t : List ℕ) (m : Masks) (text ends₀ : List ℕ) (d₀ at₀ n₀ i₀ : ℕ) (ends : List ℕ) (d at n i : ℕ) : Type 0 where
   pub going : Going t m text ends₀ d₀ at₀ n₀ i₀ ends d at n i
-  pub odd : d % 2 ≡ 1
+  pub settled : Settled m d
 
-pub set-out : (t : List ℕ) (m : Masks) (text ends₀ : List ℕ) (d₀ at₀ n₀ i₀ : ℕ) → i₀ ≤ length text → d₀ % 2 ≡ 1
+pub set-out : (t : List ℕ) (m : Masks) (text ends₀ : List ℕ) (d₀ at₀ n₀ i₀ : ℕ) → i₀ < length text → Settled m d₀
     → Strolling t m text ends₀ d₀ at₀ n₀ i₀ ends₀ d₀ at₀ n₀ i₀
-set-out t m text ends₀ d₀ at₀ n₀ i₀ h o = record { going = begun t m text ends₀ d₀ at₀ n₀ i₀ h; odd = o }
+set-out t m text ends₀ d₀ at₀ n₀ i₀ h o = record { going = begun t m text ends₀ d₀ at₀ n₀ i₀ (omega arith); settled = o }
 
 module _ {t : List ℕ} {m : Masks} {text ends₀ ends : List ℕ} {d₀ at₀ n₀ i₀ d at n i : ℕ}
     (g : Strolling t m text ends₀ d₀ at₀ n₀ i₀ ends d at n i) where
-  module _ {b d′ : ℕ} (h : i < length text) (eb : b ≡ getD text i 0) (es : d′ ≡ stepOn t m d b) where
+  module _ {b d′ : ℕ} (h : i < length text) (eb : b ≡ getD text i 0) (es : StepsTo m d (getD t b 0) d′) where
     pub stroll-passed : {r : Bool} → r ≡ topBit (m .top) d′ → r ≡ false → Strolling t m text ends₀ d₀ at₀ n₀ i₀ ends d′ (at + 1) n (i + 1)
-    stroll-passed er z = record { going = passed (g .going) h eb es er z; odd = step-odd m d (getD t b 0) d′ es }
+    stroll-passed er z = record { going = passed (g .going) h eb (es .is) er z; settled = es .settles }
 
     pub stroll-ended : {r : Bool} → r ≡ topBit (m .top) d′ → r ≡ true
         → Strolling t m text ends₀ d₀ at₀ n₀ i₀ (set ends n (at + 1)) d′ (at + 1) (n + 1) (i + 1)
-    stroll-ended er z = record { going = ended (g .going) h eb es er z; odd = step-odd m d (getD t b 0) d′ es }
+    stroll-ended er z = record { going = ended (g .going) h eb (es .is) er z; settled = es .settles }
 
     pub stroll-stopped : {r : Bool} → r ≡ topBit (m .top) d′ → r ≡ false
         → Walked t m text ends₀ d₀ at₀ n₀ i₀ (record { d = d′; at = at + 1; n = n; i = i + 1 }) ends
-    stroll-stopped er z = stopped (g .going) h eb es er z
+    stroll-stopped er z = stopped (g .going) h eb (es .is) er z
 
   pub stroll-over : i₀ < length text → length text ≤ i → Walked t m text ends₀ d₀ at₀ n₀ i₀ (record { d = d; at = at; n = n; i = i }) ends
   stroll-over h s = walked (g .going) h s

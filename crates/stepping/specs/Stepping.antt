@@ -11,13 +11,13 @@ use Rattle.words.specs.ForwardStep.{advance, blockStarts, blockEnds, topBit}
 use Rattle.stepping.specs.declared.Masks.{Masks}
 use Rattle.stepping.specs.declared.Ran.{Ran}
 
--- One step at a table entry b.
-unfoldable pub stepN : Masks → (d b : ℕ) → ℕ
-stepN m d b = advance 64 d b (bitAnd b (m .repeats)) 1 (m .optional) (blockStarts 64 (m .optional)) (blockEnds 64 (m .optional))
+-- One step at a table entry b; k is what every step sets: 1 for the beginning, or 0.
+unfoldable pub stepN : Masks → (k d b : ℕ) → ℕ
+stepN m k d b = advance 64 d b (bitAnd b (m .repeats)) k (m .optional) (blockStarts 64 (m .optional)) (blockEnds 64 (m .optional))
 
 -- The step on byte c, with B = t.
 abbrev pub stepOn : (t : List ℕ) → Masks → (d c : ℕ) → ℕ
-stepOn t m d c = stepN m d (getD t c 0)
+stepOn t m d c = stepN m 1 d (getD t c 0)
 
 -- The state after all the bytes.
 unfoldable pub stateAfter : (t : List ℕ) → Masks → (d : ℕ) → List ℕ → ℕ

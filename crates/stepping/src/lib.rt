@@ -9,6 +9,7 @@ ghost use Rattle.words.specs.ForwardStep as Step;
 ghost use Rattle.plans.specs.Plans.{Paired, Planned};
 ghost use Rattle.stepping.specs.Stepping.{stepN, Scanned};
 ghost use Rattle.stepping.specs.Walking.{Walked, Passed, Room};
+ghost use Rattle.stepping.specs.Settling.{BlocksOf, Settled, SettledIs, StepsTo};
 use plans::Plan;
 
 // A rule's masks, and the number of its top position.
@@ -33,63 +34,119 @@ pub struct Spot {
     pub i: usize,
 }
 
-// One byte's step, at its table entry.
-fn step(d: u64, b: u64, m: Masks) -> u64
-    ensures { λ r. ⌜ r ≡ stepN m d b ⌝ }
+// One byte's step, at its table entry; k is what every step sets. Where nothing is optional there is
+// nothing to flood.
+pub fn step(d: u64, b: u64, k: u64, m: Masks) -> u64
+    ensures { λ r. ⌜ r ≡ stepN m k d b ⌝ }
 {
+    let s = b & m.repeats;
+    if m.optional == 0 {
+        return words::move_up(d, b, s, k);
+    }
     let i = words::block_starts(m.optional);
     let f = words::block_ends(m.optional);
-    words::advance(d, b, b & m.repeats, 1, m.optional, i, f)
+    words::advance(d, b, s, k, m.optional, i, f)
 }
 
-// The move of an odd state. Its bit 0 is kept by the 1 beside `repeats`, which does not wait for d:
-// two operations after the shift, not three.
-fn move_odd(d: u64, b: u64, repeats: u64) -> u64
-    requires { ⌜ d % 2 ≡ 1 ⌝ }
-    ensures { λ r. ⌜ r ≡ Step.move 64 d b (bitAnd b repeats) 1 ⌝ }
-{
-    ((d << 1) & b) | (d & ((b & repeats) | 1))
+// What a walk keeps at hand of the optional positions: the opening state, the bit before each block
+// and the last of each, and where a state outside the opening state touches a block or the bit before
+// one.
+pub struct Blocks {
+    pub home: u64,
+    pub first: u64,
+    pub last: u64,
+    pub touch: u64,
 }
 
-// One step of an odd state where nothing is optional: there is nothing to flood.
-fn step_plain(d: u64, b: u64, m: Masks) -> u64
-    requires { ⌜ m .optional ≡ 0 ⌝ }
-    requires { ⌜ d % 2 ≡ 1 ⌝ }
-    ensures { λ r. ⌜ r ≡ stepN m d b ⌝ }
+fn blocks_of(optional: u64) -> Blocks
+    ensures { λ r. ⌜ BlocksOf optional r ⌝ }
 {
-    move_odd(d, b, m.repeats)
+    let home = words::opening(optional);
+    let first = words::block_starts(optional);
+    let last = words::block_ends(optional);
+    let touch = (optional | first) & !home;
+    Blocks {
+        home: home,
+        first: first,
+        last: last,
+        touch: touch,
+    }
 }
 
-// One step of an odd state. It floods only where the moved state touches a block or the bit before
-// one, since the flood changes nothing elsewhere.
-fn step_over(d: u64, b: u64, m: Masks, i: u64, f: u64) -> u64
-    requires { ⌜ (i ≡ Step.blockStarts 64 (m .optional)) × (f ≡ Step.blockEnds 64 (m .optional)) ⌝ }
-    requires { ⌜ d % 2 ≡ 1 ⌝ }
-    ensures { λ r. ⌜ r ≡ stepN m d b ⌝ }
+// Whether a state is as a step leaves it: odd, and flooded, as the opening state is. One made by hand
+// may be neither.
+fn is_settled(m: Masks, q: Blocks, d: u64) -> bool
+    requires { ⌜ BlocksOf (m .optional) q ⌝ }
+    ensures { λ r. ⌜ SettledIs m d r ⌝ }
 {
-    let x = move_odd(d, b, m.repeats);
-    if x & (m.optional | i) == 0 {
+    if m.optional % 2 != 0 {
+        return false;
+    }
+    if d == q.home {
+        return true;
+    }
+    if d % 2 != 1 {
+        return false;
+    }
+    let f = words::flood(d, m.optional, q.first, q.last);
+    f == d
+}
+
+// The move of a state that has the opening state in it. That is kept by the `home` beside `repeats`,
+// which does not wait for d: two operations after the shift, not three, and the leading optional
+// positions need no flood.
+fn move_home(d: u64, b: u64, repeats: u64, home: u64) -> u64
+    requires { ⌜ bitAnd d home ≡ home ⌝ }
+    ensures { λ r. ⌜ r ≡ Step.move 64 d b (bitAnd b repeats) home ⌝ }
+{
+    ((d << 1) & b) | (d & ((b & repeats) | home))
+}
+
+// One step where no position is optional but leading ones: there is nothing to flood.
+fn step_plain(d: u64, b: u64, m: Masks, q: Blocks) -> u64
+    requires { ⌜ BlocksOf (m .optional) q ⌝ }
+    requires { ⌜ q .touch ≡ 0 ⌝ }
+    requires { ⌜ Settled m d ⌝ }
+    ensures { λ r. ⌜ StepsTo m d b r ⌝ }
+{
+    move_home(d, b, m.repeats, q.home)
+}
+
+// One step. It floods only where the moved state touches a block, or the bit before one, and is not
+// the state before the step, since the flood changes nothing elsewhere.
+fn step_over(d: u64, b: u64, m: Masks, q: Blocks) -> u64
+    requires { ⌜ BlocksOf (m .optional) q ⌝ }
+    requires { ⌜ Settled m d ⌝ }
+    ensures { λ r. ⌜ StepsTo m d b r ⌝ }
+{
+    let x = move_home(d, b, m.repeats, q.home);
+    if x & q.touch == 0 {
         return x;
     }
-    words::flood(x, m.optional, i, f)
+    if x == d {
+        return d;
+    }
+    words::flood(x, m.optional, q.first, q.last)
 }
 
-// Steps from a place on, where nothing is optional, until the text ends or, at `stop` or past it, the
+// Steps from a place on, where no position is optional but leading ones, until the text ends or, at `stop` or past it, the
 // state is `home`.
 fn walk_plain(
     table: &[u64],
     m: Masks,
+    q: Blocks,
     home: u64,
     stop: usize,
     text: &[u8],
     ends: &mut [u32],
     s: Spot,
 ) -> Spot
-    requires { ⌜ m .optional ≡ 0 ⌝ }
+    requires { ⌜ BlocksOf (m .optional) q ⌝ }
+    requires { ⌜ q .touch ≡ 0 ⌝ }
     requires { ⌜ length (now table) ≡ 256 ⌝ }
     requires { ⌜ m .top < 64 ⌝ }
     requires { ⌜ Room s (now text) (now ends) ⌝ }
-    requires { ⌜ s .d % 2 ≡ 1 ⌝ }
+    requires { ⌜ Settled m (s .d) ⌝ }
     ensures { λ r. ⌜ Walked (now (table .entry)) m (now (text .entry)) (now (ends .entry)) (s .d) (s .at) (s .n) (s .i) r (now (ends .exit)) ⌝ }
 {
     let mut d = s.d;
@@ -98,7 +155,7 @@ fn walk_plain(
     let mut i = s.i;
     while i < text.len() {
         let c = looks::index(text[i]);
-        d = step_plain(d, table[c], m);
+        d = step_plain(d, table[c], m, q);
         at += 1;
         i += 1;
         if words::reports(d, m.top) {
@@ -123,31 +180,31 @@ fn walk_plain(
     }
 }
 
-// The same where positions are optional.
+// The same where others are optional too.
 fn walk_over(
     table: &[u64],
     m: Masks,
+    q: Blocks,
     home: u64,
     stop: usize,
     text: &[u8],
     ends: &mut [u32],
     s: Spot,
 ) -> Spot
+    requires { ⌜ BlocksOf (m .optional) q ⌝ }
     requires { ⌜ length (now table) ≡ 256 ⌝ }
     requires { ⌜ m .top < 64 ⌝ }
     requires { ⌜ Room s (now text) (now ends) ⌝ }
-    requires { ⌜ s .d % 2 ≡ 1 ⌝ }
+    requires { ⌜ Settled m (s .d) ⌝ }
     ensures { λ r. ⌜ Walked (now (table .entry)) m (now (text .entry)) (now (ends .entry)) (s .d) (s .at) (s .n) (s .i) r (now (ends .exit)) ⌝ }
 {
-    let first = words::block_starts(m.optional);
-    let last = words::block_ends(m.optional);
     let mut d = s.d;
     let mut at = s.at;
     let mut n = s.n;
     let mut i = s.i;
     while i < text.len() {
         let c = looks::index(text[i]);
-        d = step_over(d, table[c], m, first, last);
+        d = step_over(d, table[c], m, q);
         at += 1;
         i += 1;
         if words::reports(d, m.top) {
@@ -172,7 +229,7 @@ fn walk_over(
     }
 }
 
-// One step by the formula, for a state made by hand that is even.
+// One step by the formula, for a state made by hand.
 fn walk_one(table: &[u64], m: Masks, text: &[u8], ends: &mut [u32], s: Spot) -> Spot
     requires { ⌜ length (now table) ≡ 256 ⌝ }
     requires { ⌜ m .top < 64 ⌝ }
@@ -182,7 +239,7 @@ fn walk_one(table: &[u64], m: Masks, text: &[u8], ends: &mut [u32], s: Spot) -> 
     let i = s.i;
     let n = s.n;
     let c = looks::index(text[i]);
-    let d = step(s.d, table[c], m);
+    let d = step(s.d, table[c], 1, m);
     let at = s.at + 1;
     let past = i + 1;
     let is_end = words::reports(d, m.top);
@@ -204,28 +261,30 @@ fn walk_one(table: &[u64], m: Masks, text: &[u8], ends: &mut [u32], s: Spot) -> 
     }
 }
 
-// Walks by the masks: at least one byte, and only one where the state is even.
+// Walks by the masks: at least one byte, and only one where the state is not as a step leaves it.
 fn walk(
     table: &[u64],
     m: Masks,
+    q: Blocks,
     home: u64,
     stop: usize,
     text: &[u8],
     ends: &mut [u32],
     s: Spot,
 ) -> Spot
+    requires { ⌜ BlocksOf (m .optional) q ⌝ }
     requires { ⌜ length (now table) ≡ 256 ⌝ }
     requires { ⌜ m .top < 64 ⌝ }
     requires { ⌜ Room s (now text) (now ends) ⌝ }
     ensures { λ r. ⌜ Walked (now (table .entry)) m (now (text .entry)) (now (ends .entry)) (s .d) (s .at) (s .n) (s .i) r (now (ends .exit)) ⌝ }
 {
-    if s.d % 2 != 1 {
-        return walk_one(table, m, text, ends, s);
+    if is_settled(m, q, s.d) {
+        if q.touch == 0 {
+            return walk_plain(table, m, q, home, stop, text, ends, s);
+        }
+        return walk_over(table, m, q, home, stop, text, ends, s);
     }
-    if m.optional == 0 {
-        return walk_plain(table, m, home, stop, text, ends, s);
-    }
-    walk_over(table, m, home, stop, text, ends, s)
+    walk_one(table, m, text, ends, s)
 }
 
 // The next start that has the pair, if it can still be told. Table and masks are there for the
@@ -309,6 +368,7 @@ fn run_by(table: &[u64], m: Masks, p: Plan, d: u64, base: u32, text: &[u8], ends
     requires { ⌜ base + length (now text) < 2 ^ 32 ⌝ }
     ensures { λ r. ⌜ Scanned (now (table .entry)) m d base (now (text .entry)) (now (ends .entry)) r (now (ends .exit)) ⌝ }
 {
+    let q = blocks_of(m.optional);
     let mut d = d;
     let mut at = base;
     let mut n = 0;
@@ -319,16 +379,19 @@ fn run_by(table: &[u64], m: Masks, p: Plan, d: u64, base: u32, text: &[u8], ends
             return Ran { d: d, count: n };
         }
         let stop = stop_at(p.kind, i, j, text.len());
+        let gone = (j - i) as u32;
+        let here = at + gone;
         let r = walk(
             table,
             m,
+            q,
             p.home,
             stop,
             text,
             ends,
             Spot {
                 d: d,
-                at: at + (j - i) as u32,
+                at: here,
                 n: n,
                 i: j,
             },

@@ -8,8 +8,9 @@ use native.Mathlib.Omega.{arith}
 use lib.ListN.{length, getD, set, length-set, length-append}
 use lib.Seq.{sets, set-comm}
 use Rattle.words.specs.ForwardStep.{opening, topBit}
-use Rattle.windows.specs.declared.Masks.{Masks}
-use Rattle.windows.specs.Reading.{stepN, lastIf, stepAt, backN, startsBack, CountIs, WriteFine, WroteIs, RestFine}
+use Rattle.stepping.specs.declared.Masks.{Masks}
+use Rattle.stepping.specs.Stepping.{stepN}
+use Rattle.windows.specs.Reading.{lastIf, stepAt, backN, startsBack, CountIs, WriteFine, WroteIs}
 
 -- a store after a run of stores is a store before them
 sets-last : (l : List ℕ) (i : ℕ) (xs : List ℕ) (v : ℕ) → sets l i (xs ++ (v ∷ [])) ≡ sets (set l (i + length xs) v) i xs
@@ -161,8 +162,3 @@ module _ (t : List ℕ) (m : Masks) (text : List ℕ) (from : ℕ) (l₀ : List 
         none-left : (xs : List ℕ) → length xs ≡ 0 → xs ≡ []
         none-left [] e = refl
         none-left (x ∷ xs) e = absurd (omega arith)
-
--- ---- both
-
-pub may-write : (t : List ℕ) (m : Masks) (text : List ℕ) (from len first k : ℕ) → RestFine (length text) from len first → CountIs t m text from k → WriteFine t m text from len first k
-may-write t m text from len first k f c = record { from-within = f .from-within; small = f .small; count = c .is; room = omega (arith, f .ordered, f .room, c .few) }

@@ -8,9 +8,10 @@ use lib.ListN.{getD}
 use lib.Dec.{eqb}
 use borrow.Author.Tests.{eq-eqb, ne-eqb}
 use Rattle.words.specs.ForwardStep.{opening, topBit}
-use Rattle.windows.specs.declared.Masks.{Masks}
+use Rattle.stepping.specs.declared.Masks.{Masks}
+use Rattle.stepping.specs.Stepping.{stepN}
 use Rattle.windows.specs.declared.End.the-variants.{At, Dead, Open}
-use Rattle.windows.specs.Reading.{stepN, stepAt, endedN, EndIs}
+use Rattle.windows.specs.Reading.{stepAt, endedN, EndIs}
 
 -- the invariant: the bytes from e up to `stop` may still be read
 pub record Verifying (t : List ℕ) (m : Masks) (text : List ℕ) (s stop d e : ℕ) : Type 0 where

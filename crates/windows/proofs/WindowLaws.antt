@@ -8,8 +8,9 @@ use lib.ListN.{length, getD}
 use lib.Dec.{eqb}
 use borrow.Author.Tests.{eq-eqb, ne-eqb}
 use Rattle.words.specs.ForwardStep.{topBit}
-use Rattle.windows.specs.declared.Masks.{Masks}
-use Rattle.windows.specs.Reading.{stepN, every, stepAt, seenN, Window, SeenIs}
+use Rattle.stepping.specs.declared.Masks.{Masks}
+use Rattle.stepping.specs.Stepping.{stepN}
+use Rattle.windows.specs.Reading.{every, stepAt, seenN, Window, SeenIs}
 
 -- the invariant: bytes j .. 1 are still to be read, and then byte 0
 pub record Looking (t : List ℕ) (m : Masks) (size : ℕ) (text : List ℕ) (w d last j : ℕ) : Type 0 where
@@ -26,10 +27,6 @@ module _ (t : List ℕ) (m : Masks) (text : List ℕ) (w d last : ℕ) where
   unfolding seenN
   seen-turn zero h = absurd (omega arith)
   seen-turn (suc j) h = let e : suc j - 1 ≡ j = omega arith in rw e
-
-  seen-last : seenN t m text w d last 0 ≡ record { shift = last; hit = topBit (m .top) (stepAt t m text 0 d w) }
-  unfolding seenN
-  seen-last = refl
 
 module _ (t : List ℕ) (m : Masks) (size : ℕ) (text : List ℕ) (w : ℕ) where
   pub look-begun : Window size w (length text) → Looking t m size text w every size (size - 1)

@@ -4,19 +4,15 @@ use mathlib.Core.Path.{_≡_}
 use mathlib.Core.Bool.{Bool, true, false, cond}
 use mathlib.Core.List.{List, [], _∷_, _++_}
 use Prim.Native.Nat.{ℕ, zero, suc, _+_, _-_, _^_, _≤_, _<_}
-use lib.Bits.{bitAnd}
 use lib.ListN.{length, getD}
 use lib.Seq.{sets}
 use lib.Dec.{eqb}
-use Rattle.words.specs.ForwardStep.{advance, blockStarts, blockEnds, opening, topBit}
-use Rattle.windows.specs.declared.Masks.{Masks}
+use Rattle.words.specs.ForwardStep.{opening, topBit}
+use Rattle.stepping.specs.declared.Masks.{Masks}
+use Rattle.stepping.specs.Stepping.{stepN}
 use Rattle.windows.specs.declared.Seen.{Seen}
 use Rattle.windows.specs.declared.End.{End}
 use Rattle.windows.specs.declared.End.the-variants.{At, Dead, Open}
-
--- "On byte c", at its table entry b; k is what every step sets: 1 for the beginning, or 0
-unfoldable pub stepN : Masks → (k d b : ℕ) → ℕ
-stepN m k d b = advance 64 d b (bitAnd b (m .repeats)) k (m .optional) (blockStarts 64 (m .optional)) (blockEnds 64 (m .optional))
 
 -- all states
 abbrev pub every : ℕ

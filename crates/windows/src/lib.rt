@@ -1,17 +1,10 @@
 // The window search's readings of a text, over prepared tables: a window backwards, a start forwards,
 // and all the text backwards. Each contract is an equation with a definition of `specs/Reading.antt`,
 // for any table and masks.
-ghost use mathlib.Core.Path.{_≡_};
-ghost use Prim.Native.Nat.{_+_, _≤_, _<_, _^_};
+ghost use Prim.Native.Nat.{_+_, _≤_, _<_};
 ghost use lib.ListN.{length};
-ghost use Rattle.windows.specs.Reading.{Tables, Window, stepN, SeenIs, EndIs, startsBack, CountIs, WriteFine, WroteIs, RestFine, WrittenIs};
-
-// A rule in one direction: the positions that repeat, the optional ones, and the number of the top one.
-pub struct Masks {
-    pub repeats: u64,
-    pub optional: u64,
-    pub top: u64,
-}
+ghost use Rattle.windows.specs.Reading.{Tables, Window, SeenIs, EndIs, CountIs, WriteFine, WroteIs, RestFine, WrittenIs};
+use stepping::Masks;
 
 // What a window says: the published shift, and whether its bytes begin a string that the rule admits.
 pub struct Seen {
@@ -27,15 +20,6 @@ pub enum End {
     Open,
 }
 
-// One step, at a byte's table entry; k is what every step sets.
-fn step(d: u64, b: u64, k: u64, m: Masks) -> u64
-    ensures { λ x. ⌜ x ≡ stepN m k d b ⌝ }
-{
-    let i = words::block_starts(m.optional);
-    let f = words::block_ends(m.optional);
-    words::advance(d, b, b & m.repeats, k, m.optional, i, f)
-}
-
 // Reads window w of `size` bytes from its last byte backwards, with the reversed table and masks, until
 // no state is left.
 pub fn window_shift(reversed: &[u64], m: Masks, size: usize, text: &[u8], w: usize) -> Seen
@@ -48,7 +32,7 @@ pub fn window_shift(reversed: &[u64], m: Masks, size: usize, text: &[u8], w: usi
     let mut j = size - 1;
     while 0 < j {
         let c = looks::index(text[w + j]);
-        d = step(d, reversed[c], 0, m);
+        d = stepping::step(d, reversed[c], 0, m);
         if d == 0 {
             return Seen {
                 shift: last,
@@ -62,7 +46,7 @@ pub fn window_shift(reversed: &[u64], m: Masks, size: usize, text: &[u8], w: usi
         }
     }
     let c = looks::index(text[w]);
-    d = step(d, reversed[c], 0, m);
+    d = stepping::step(d, reversed[c], 0, m);
     let hit = words::reports(d, m.top);
     Seen {
         shift: last,
@@ -81,7 +65,7 @@ pub fn verify(forward: &[u64], m: Masks, text: &[u8], s: usize, stop: usize) -> 
     let mut e = s;
     while e < stop {
         let c = looks::index(text[e]);
-        d = step(d, forward[c], 0, m);
+        d = stepping::step(d, forward[c], 0, m);
         e += 1;
         if d == 0 {
             return End::Dead(e);
@@ -106,7 +90,7 @@ pub fn count_back(reversed: &[u64], m: Masks, text: &[u8], from: usize) -> usize
     while from < j {
         j -= 1;
         let c = looks::index(text[j]);
-        d = step(d, reversed[c], 1, m);
+        d = stepping::step(d, reversed[c], 1, m);
         if words::reports(d, m.top) {
             k += 1;
         }
@@ -135,7 +119,7 @@ fn write_back(
     while first < p {
         j -= 1;
         let c = looks::index(text[j]);
-        d = step(d, reversed[c], 1, m);
+        d = stepping::step(d, reversed[c], 1, m);
         if words::reports(d, m.top) {
             p -= 1;
             starts[p] = j as u32;

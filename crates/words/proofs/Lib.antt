@@ -3,6 +3,7 @@ pub mod Digits
 pub mod Apart
 pub mod Closure
 pub mod Still
+pub mod Settled
 pub mod Counting
 pub mod MaskLaws
 pub mod Bridge

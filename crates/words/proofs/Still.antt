@@ -9,7 +9,7 @@ use Rattle.model.specs.Occurrence.{oneIf}
 use Rattle.words.specs.Bit.{bit}
 use Rattle.words.specs.ForwardStep.{move, flood, blockStarts, blockEnds}
 use Rattle.words.proofs.Digits.{low-oneIf, bit-above, and-bit, or-bit, none-bit}
-use Rattle.words.proofs.Apart.{same-bits, same-all, apart, and-none}
+use Rattle.words.proofs.Apart.{same-bits, apart, and-none}
 use Rattle.words.proofs.Closure.{closed, Blocks, flood-bit, blocks}
 
 -- ---- the flood
@@ -19,7 +19,7 @@ pub flood-none : (w d i f : ℕ) → flood w d 0 i f ≡ d
 unfolding flood
 flood-none w d i f = rw (and-zero-l, or-zero-r)
 
-flood-lt : (w d a i f : ℕ) → d < 2 ^ w → a < 2 ^ w → flood w d a i f < 2 ^ w
+pub flood-lt : (w d a i f : ℕ) → d < 2 ^ w → a < 2 ^ w → flood w d a i f < 2 ^ w
 unfolding flood
 flood-lt w d a i f hd ha = or-lt w d _ hd (lt-of-le-of-lt (and-le-l a _) ha)
 
@@ -56,10 +56,10 @@ flood-still w d a hd ha odd e =
 
 -- ---- the move
 
-pub move-lt : (w d b s : ℕ) → b < 2 ^ w → s < 2 ^ w → 1 < 2 ^ w → move w d b s 1 < 2 ^ w
+pub move-lt : (w d b s k : ℕ) → b < 2 ^ w → s < 2 ^ w → k < 2 ^ w → move w d b s k < 2 ^ w
 unfolding move
-move-lt w d b s hb hs h =
-    or-lt w (bitOr (bitAnd (d * 2 % 2 ^ w) b) (bitAnd d s)) 1
+move-lt w d b s k hb hs h =
+    or-lt w (bitOr (bitAnd (d * 2 % 2 ^ w) b) (bitAnd d s)) k
     (or-lt w (bitAnd (d * 2 % 2 ^ w) b) (bitAnd d s) (lt-of-le-of-lt (and-le-r (d * 2 % 2 ^ w) b) hb) (lt-of-le-of-lt (and-le-r d s) hs)) h
 
 pub true-right : (b : Bool) → (b || true) ≡ true
@@ -107,35 +107,3 @@ bit-odd x e = sym (low-oneIf x) ∙ ap oneIf e
 
 pub one-bit : (j : ℕ) → bit 1 (suc j) ≡ false
 one-bit j = bit-above 1 1 (suc j) (omega arith) (omega arith)
-
--- the 1 may stand beside what an odd state keeps
-pub move-fold : (d b r : ℕ) → d % 2 ≡ 1 → bitOr (bitAnd (d * 2 % 2 ^ 64) b) (bitAnd d (bitOr (bitAnd b r) 1)) ≡ move 64 d b (bitAnd b r) 1
-unfolding move
-move-fold d b r e =
-    same-all (bitOr (bitAnd (d * 2 % 2 ^ 64) b) (bitAnd d (bitOr (bitAnd b r) 1))) (bitOr (bitOr (bitAnd (d * 2 % 2 ^ 64) b) (bitAnd d (bitAnd b r))) 1) go
-  where
-    always : (p q s : Bool) → (p || (true && (q || true))) ≡ (s || true)
-    always true q true = refl
-    always true q false = refl
-    always false true true = refl
-    always false true false = refl
-    always false false true = refl
-    always false false false = refl
-
-    never : (p q s : Bool) → (p || (q && (s || false))) ≡ ((p || (q && s)) || false)
-    never true q s = refl
-    never false false s = refl
-    never false true true = refl
-    never false true false = refl
-
-    one : bit 1 0 ≡ true
-    one = odd-bit 1 refl
-
-    go : (j : ℕ) → bit (bitOr (bitAnd (d * 2 % 2 ^ 64) b) (bitAnd d (bitOr (bitAnd b r) 1))) j
-        ≡ bit (bitOr (bitOr (bitAnd (d * 2 % 2 ^ 64) b) (bitAnd d (bitAnd b r))) 1) j
-    go zero =
-        simp (or-bit, and-bit (d * 2 % 2 ^ 64) b, and-bit d (bitOr (bitAnd b r) 1), and-bit d (bitAnd b r), one, odd-bit d e)
-        (always (bit (d * 2 % 2 ^ 64) 0 && bit b 0) (bit (bitAnd b r) 0) ((bit (d * 2 % 2 ^ 64) 0 && bit b 0) || (true && bit (bitAnd b r) 0)))
-    go (suc j) =
-        simp (or-bit, and-bit (d * 2 % 2 ^ 64) b, and-bit d (bitOr (bitAnd b r) 1), and-bit d (bitAnd b r), one-bit j)
-        (never (bit (d * 2 % 2 ^ 64) (suc j) && bit b (suc j)) (bit d (suc j)) (bit (bitAnd b r) (suc j)))

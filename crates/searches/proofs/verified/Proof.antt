@@ -55,7 +55,7 @@ loop-again c =
     let i = c .before .before .before in
     let l = c .before .before .before .before .before .before .before .before in
     let s = c .before .before .before .before .before .before .before .before .before .before .before .before .before in
-    skipped _ _ _ _ _ (l .loop .inv) (c .before .before .before .before .before .before .if1 .taken) (s .pre .0 .some) (i .index .ensures .0) (c .before .if2 .taken)
+    skipped _ _ _ _ _ (l .loop .inv) (c .before .before .before .before .before .before .if1 .taken) (s .pre .0 .backs .some) (i .index .ensures .0) (c .before .if2 .taken)
 
 try-window-requires : tie.Need-try-window-requires Inv-loop μ-loop
 try-window-requires c κs = search needs

@@ -9,10 +9,13 @@ use Rattle.stepping.proofs.run_by.Statement.{statement}
 use Rattle.stepping.proofs.run_by.Tie as tie
 
 abbrev Inv-loop : tie.InvT-loop
-Inv-loop t m p d base text ends₀ d₀ at₀ n₀ i₀ ends d' at n i = Going t m text ends₀ d base 0 0 ends d' at n i
+Inv-loop t m p d base text ends₀ q d₀ at₀ n₀ i₀ ends d' at n i = Going t m text ends₀ d base 0 0 ends d' at n i
 
 abbrev μ-loop : tie.MeasureT-loop
-μ-loop t m p d base text ends₀ d₀ at₀ n₀ i₀ ends d' at n i = length text - i
+μ-loop t m p d base text ends₀ q d₀ at₀ n₀ i₀ ends d' at n i = length text - i
+
+blocks-of-requires : tie.Need-blocks-of-requires Inv-loop μ-loop
+blocks-of-requires c κs = search needs
 
 loop-holds : tie.Need-loop-holds Inv-loop μ-loop
 loop-holds c = begun _ _ _ _ _ _ _ _ (omega arith)
@@ -29,17 +32,17 @@ returns c = search over-leap
 stop-at-requires : tie.Need-stop-at-requires Inv-loop μ-loop
 stop-at-requires c κs = search needs
 
-sub-t15 : tie.Need-sub-t15 Inv-loop μ-loop
-sub-t15 c = search needs
+sub-gone : tie.Need-sub-gone Inv-loop μ-loop
+sub-gone c = search needs
 
-cast-t19 : tie.Need-cast-t19 Inv-loop μ-loop
-cast-t19 c = search needs
+cast-gone : tie.Need-cast-gone Inv-loop μ-loop
+cast-gone c = search needs
 
-add-t20 : tie.Need-add-t20 Inv-loop μ-loop
-add-t20 c = search needs
+add-here : tie.Need-add-here Inv-loop μ-loop
+add-here c = search needs
 
 walk-requires : tie.Need-walk-requires Inv-loop μ-loop
-walk-requires c κs = search has-room
+walk-requires c κs = let s = c .before .before .before .before .before .before .before .before .before .before in (c .before .before .before .before .before .before .blocks-of .ensures, (s .pre .0, (s .pre .1 .0, search has-room)))
 
 loop-less : tie.Need-loop-less Inv-loop μ-loop
 loop-less c = search needs
@@ -59,14 +62,15 @@ run-by-spec =
     (tie.spec
     Inv-loop
     μ-loop
+    blocks-of-requires
     loop-holds
     pass-requires
     same-length
     returns
     stop-at-requires
-    sub-t15
-    cast-t19
-    add-t20
+    sub-gone
+    cast-gone
+    add-here
     walk-requires
     loop-less
     loop-again

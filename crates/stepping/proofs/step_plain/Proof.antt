@@ -1,14 +1,16 @@
 -- `stepping::step_plain` meets its contract. Its laws are in this crate's `proofs/`; `search LAW` finds a law's premises in `c`. Assumes nothing.
-use borrow.Author.Needs.{needs}
-use Rattle.stepping.proofs.Steps.{step-none}
+use Rattle.stepping.proofs.Steps.{has-home, step-plain}
 use Rattle.stepping.proofs.step_plain.Statement.{statement}
 use Rattle.stepping.proofs.step_plain.Tie as tie
+use Rattle.stepping.proofs.step_plain.Reads as reads
+use Rattle.stepping.proofs.step_plain.Lts as lts
+use Rattle.stepping.proofs.move_home.Reads as move-home-reads
 
-move-odd-requires : tie.Need-move-odd-requires
-move-odd-requires c κs = search needs
+move-home-requires : tie.Need-move-home-requires
+move-home-requires c κs = search has-home
 
 returns : tie.Need-returns
-returns c = search step-none
+returns c = search step-plain
 
 pub step-plain-spec : {M : Type 1} → statement M
-step-plain-spec = tie.close (tie.spec move-odd-requires returns)
+step-plain-spec = tie.close (tie.spec move-home-requires returns)

@@ -1,6 +1,5 @@
 -- `stepping::walk_over` meets its contract. Its laws are in this crate's `proofs/`; `search LAW` finds a law's premises in `c`. Assumes nothing.
 use borrow.Author.Needs.{needs}
-use native.Mathlib.Omega.{arith}
 use Prim.Native.Nat.{_-_}
 use lib.ListN.{length}
 use Rattle.stepping.proofs.Turns.{Strolling, set-out, stroll-passed, stroll-ended, stroll-stopped, stroll-over}
@@ -8,19 +7,13 @@ use Rattle.stepping.proofs.walk_over.Statement.{statement}
 use Rattle.stepping.proofs.walk_over.Tie as tie
 
 abbrev Inv-loop : tie.InvT-loop
-Inv-loop t m home stop text ends₀ first last d₀ at₀ n₀ i₀ ends d at n i = Strolling t m text ends₀ d₀ at₀ n₀ i₀ ends d at n i
+Inv-loop t m q home stop text ends₀ d₀ at₀ n₀ i₀ ends d at n i = Strolling t m text ends₀ d₀ at₀ n₀ i₀ ends d at n i
 
 abbrev μ-loop : tie.MeasureT-loop
-μ-loop t m home stop text ends₀ first last d₀ at₀ n₀ i₀ ends d at n i = length text - i
-
-block-starts-requires : tie.Need-block-starts-requires Inv-loop μ-loop
-block-starts-requires c κs = search needs
-
-block-ends-requires : tie.Need-block-ends-requires Inv-loop μ-loop
-block-ends-requires c κs = search needs
+μ-loop t m q home stop text ends₀ d₀ at₀ n₀ i₀ ends d at n i = length text - i
 
 loop-holds : tie.Need-loop-holds Inv-loop μ-loop
-loop-holds c = set-out _ _ _ _ _ _ _ _ (omega arith) (omega arith)
+loop-holds c = search set-out
 
 shared-slice-read-index : tie.Need-shared-slice-read-index Inv-loop μ-loop
 shared-slice-read-index c = search needs
@@ -91,8 +84,6 @@ walk-over-spec =
     (tie.spec
     Inv-loop
     μ-loop
-    block-starts-requires
-    block-ends-requires
     loop-holds
     shared-slice-read-index
     index-requires

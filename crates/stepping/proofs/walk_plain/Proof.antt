@@ -1,6 +1,5 @@
 -- `stepping::walk_plain` meets its contract. Its laws are in this crate's `proofs/`; `search LAW` finds a law's premises in `c`. Assumes nothing.
 use borrow.Author.Needs.{needs}
-use native.Mathlib.Omega.{arith}
 use Prim.Native.Nat.{_-_}
 use lib.ListN.{length}
 use Rattle.stepping.proofs.Turns.{Strolling, set-out, stroll-passed, stroll-ended, stroll-stopped, stroll-over}
@@ -8,13 +7,13 @@ use Rattle.stepping.proofs.walk_plain.Statement.{statement}
 use Rattle.stepping.proofs.walk_plain.Tie as tie
 
 abbrev Inv-loop : tie.InvT-loop
-Inv-loop t m home stop text ends₀ d₀ at₀ n₀ i₀ ends d at n i = Strolling t m text ends₀ d₀ at₀ n₀ i₀ ends d at n i
+Inv-loop t m q home stop text ends₀ d₀ at₀ n₀ i₀ ends d at n i = Strolling t m text ends₀ d₀ at₀ n₀ i₀ ends d at n i
 
 abbrev μ-loop : tie.MeasureT-loop
-μ-loop t m home stop text ends₀ d₀ at₀ n₀ i₀ ends d at n i = length text - i
+μ-loop t m q home stop text ends₀ d₀ at₀ n₀ i₀ ends d at n i = length text - i
 
 loop-holds : tie.Need-loop-holds Inv-loop μ-loop
-loop-holds c = set-out _ _ _ _ _ _ _ _ (omega arith) (omega arith)
+loop-holds c = search set-out
 
 shared-slice-read-index : tie.Need-shared-slice-read-index Inv-loop μ-loop
 shared-slice-read-index c = search needs

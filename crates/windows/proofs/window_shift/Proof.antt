@@ -6,7 +6,7 @@ use Rattle.windows.proofs.window_shift.Tie as tie
 use Rattle.windows.proofs.window_shift.Reads as reads
 use Rattle.windows.proofs.window_shift.Lts as lts
 use Rattle.looks.proofs.index.Reads as index-reads
-use Rattle.windows.proofs.step.Reads as step-reads
+use Rattle.stepping.proofs.step.Reads as step-reads
 use Rattle.words.proofs.reports.Reads as reports-reads
 
 abbrev Inv-loop : tie.InvT-loop

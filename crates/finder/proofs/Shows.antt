@@ -1,0 +1,93 @@
+-- The part that is shown, for any rule, text and start. On plain values. Assumes nothing.
+use mathlib.Core.Path.{_≡_, refl, sym, ap, _∙_}
+use mathlib.Core.Bool.{Bool, false, cond}
+use mathlib.Core.List.{List}
+use Prim.Native.Nat.{ℕ, _+_, _-_, _≤_, _<_}
+use native.Mathlib.Omega.{arith}
+use lib.Dec.{T}
+use lib.ListN.{length, take, drop}
+use borrow.Author.Tests.{lt-ltb, le-ltb}
+use Rattle.model.specs.Occurrence.{Position, stretch, all}
+use Rattle.model.specs.RuleText.{foldFlag, isByte, positions}
+use Rattle.model.specs.NumberedAnswers.{textLimit, Parsed, refused, accepted, parse, positionsBy, rulePositions}
+use Rattle.model.specs.WindowSearch.{emptyPart, partFrom, partBy, shown}
+use Rattle.model.proofs.Windows.{take-drop}
+use Rattle.model.proofs.Earliest.{part-empty}
+use Rattle.rules.specs.declared.Prepared.{Prepared}
+use Rattle.rules.specs.Preparing.{preparedBy, prepared, Prepares}
+use Rattle.rules.specs.Tables.{Fillable, Filled}
+use Rattle.rules.proofs.Encoded.{is-accepted, may-fill}
+use Rattle.searches.specs.declared.Rule.{Rule}
+use Rattle.searches.specs.declared.Span.{Span}
+use Rattle.searches.specs.Searching.{spanOf, SpanIs}
+use Rattle.finder.specs.Searching.{PreparedIs}
+use Rattle.finder.specs.Showing.{Showable, PartIs, ShownIs, shownBytes}
+use Rattle.finder.proofs.Parts.{rule-is-ok, on-top, onward}
+
+-- ---- `span_accepted`
+
+module _ (flag : ℕ) (rule : List ℕ) (p : Prepared) (len start : ℕ) (r : Showable flag rule p len start) where
+  pub shown-fillable : (table : List ℕ) → length table ≡ 256 → Fillable flag rule (p .positions) table
+  shown-fillable table l = may-fill flag rule p (r .prepares) (r .accepted) table l
+
+  module _ (q : Rule) (x : PreparedIs p q) (forward : List ℕ) (f : Filled flag rule false forward) where
+    pub part-shown : T (all isByte rule) → (text : List ℕ) (y : Span) → SpanIs forward (q .forward) text start y → PartIs flag rule text start y
+    part-shown bytes text y i =
+        let hp = r .prepares in
+        let z = r .accepted in
+        record {
+          is = i .means (rulePositions (foldFlag flag) rule) (onward flag rule p hp z q x forward f) (on-top flag rule p hp z q x forward f) (rule-is-ok flag rule p hp z bytes .not-empty);
+          ordered = i .ordered;
+          inside = i .inside;
+        }
+
+-- ---- `span`
+
+not-accepted : (flag : ℕ) (text : List ℕ) (s : ℕ) (x : Parsed) (p : Prepared) → p ≡ preparedBy (foldFlag flag) x → (p .number ≡ 0 → ⊥)
+    → record { from = length text; to = length text } ≡ spanOf (partBy (foldFlag flag) x text s)
+not-accepted flag text s (refused k q) p e z = refl
+not-accepted flag text s (accepted es) p e z = absurd (z (ap (λ (y : Prepared). y .number) e))
+
+module _ (flag : ℕ) (rule text : List ℕ) (s : ℕ) where
+  -- the empty part at the text's end
+  abbrev Nothing : Type 0
+  Nothing = ShownIs flag rule text s (record { from = length text; to = length text })
+
+  nothing : record { from = length text; to = length text } ≡ spanOf (shown flag rule text s) → Nothing
+  nothing e = record { is = e; ordered = omega arith; inside = omega arith }
+
+  module _ (p : Prepared) (hp : Prepares flag rule p) where
+    pub shown-refused : (p .number ≡ 0 → ⊥) → Nothing
+    unfolding prepared
+    shown-refused z = nothing (not-accepted flag text s (parse (foldFlag flag) rule) p (hp .is) z)
+
+    module _ (z : p .number ≡ 0) where
+      pub shown-long : textLimit < length text → Nothing
+      shown-long h = let a = is-accepted flag rule p hp z .parses in nothing (rw (a, lt-ltb _ _ h))
+
+      module _ (h : length text ≤ textLimit) where
+        by-part : shown flag rule text s ≡ partFrom (rulePositions (foldFlag flag) rule) text s
+        by-part =
+            let a = is-accepted flag rule p hp z in
+            let q : rulePositions (foldFlag flag) rule ≡ positions (foldFlag flag) (a .elements) = ap (positionsBy (foldFlag flag)) (a .parses) in
+            ap (λ (x : Parsed). partBy (foldFlag flag) x text s) (a .parses)
+            ∙ ap (λ (b : Bool). cond b (emptyPart text) (partFrom (positions (foldFlag flag) (a .elements)) text s)) (le-ltb _ _ h)
+            ∙ ap (λ (ps : List Position). partFrom ps text s) (sym q)
+
+        pub shown-past : length text < s → Nothing
+        shown-past l =
+            nothing (sym (ap spanOf (by-part ∙ part-empty (rulePositions (foldFlag flag) rule) text s (λ o. let a = o .1 .ordered in let b = o .1 .inside in omega arith))))
+
+        pub shown-ready : s ≤ length text → Showable flag rule p (length text) s
+        shown-ready l = record { prepares = hp; accepted = z; within = l }
+
+        pub shown-done : (y : Span) → PartIs flag rule text s y → ShownIs flag rule text s y
+        shown-done y i = record { is = i .is ∙ ap spanOf (sym by-part); ordered = i .ordered; inside = i .inside }
+
+-- ---- `show`
+
+pub shown-bytes : {flag : ℕ} {rule text : List ℕ} {s : ℕ} {y : Span} → ShownIs flag rule text s y → take (y .to - y .from) (drop (y .from) text) ≡ shownBytes flag rule text s
+shown-bytes {flag} {rule} {text} {s} {y} i =
+    let o = i .ordered in
+    let e : y .from + (y .to - y .from) ≡ y .to = omega arith in
+    take-drop (y .to - y .from) (y .from) text ∙ ap (λ (k : ℕ). drop (y .from) (take k text)) e ∙ ap (λ (y : Span). stretch text (y .from) (y .to)) (i .is)

@@ -1,0 +1,17 @@
+-- `finder::exports::jazhuppe_prepare` meets its contract. Its laws are in this crate's `proofs/`; `search LAW` finds a law's premises in `c`. Assumes nothing.
+use Rattle.finder.proofs.Parts.{prepare-answers}
+use borrow.Author.Needs.{needs}
+use Rattle.finder.proofs.exports.jazhuppe_prepare.Statement.{statement}
+use Rattle.finder.proofs.exports.jazhuppe_prepare.Tie as tie
+use Rattle.finder.proofs.exports.jazhuppe_prepare.Reads as reads
+use Rattle.finder.proofs.exports.jazhuppe_prepare.Lts as lts
+use Rattle.rules.proofs.prepare.Reads as prepare-reads
+
+prepare-requires : tie.Need-prepare-requires
+prepare-requires c κs = search needs
+
+returns : tie.Need-returns
+returns c = search prepare-answers
+
+pub jazhuppe-prepare-spec : {M : Type 1} → statement M
+jazhuppe-prepare-spec = tie.close (tie.spec prepare-requires returns)

@@ -1,0 +1,56 @@
+-- `stepping::walk` meets its contract. Its laws are in this crate's `proofs/`; `search LAW` finds a law's premises in `c`. Assumes nothing.
+use Rattle.stepping.proofs.Steps.{settled-by}
+use borrow.Author.Needs.{needs}
+use Rattle.stepping.proofs.walk.Statement.{statement}
+use Rattle.stepping.proofs.walk.Tie as tie
+use Rattle.stepping.proofs.walk.Reads as reads
+use Rattle.stepping.proofs.walk.Lts as lts
+use Rattle.stepping.proofs.is_settled.Reads as is-settled-reads
+use Rattle.stepping.proofs.walk_one.Reads as walk-one-reads
+use Rattle.stepping.proofs.walk_over.Reads as walk-over-reads
+use Rattle.stepping.proofs.walk_plain.Reads as walk-plain-reads
+
+is-settled-requires : tie.Need-is-settled-requires
+is-settled-requires c κs = search needs
+
+walk-plain-requires : tie.Need-walk-plain-requires
+walk-plain-requires c κs = let s = c .before .before .before .before .before .before .before .before in (s .pre .0, (c .before .if2 .taken, (s .pre .1 .0, (s .pre .1 .1 .0, (s .pre .1 .1 .1, settled-by (c .before .before .before .before .is-settled .ensures) (c .before .before .before .if1 .taken))))))
+
+same-length : tie.Need-same-length
+same-length c = search needs
+
+returns : tie.Need-returns
+returns c = search needs
+
+walk-over-requires : tie.Need-walk-over-requires
+walk-over-requires c κs = let s = c .before .before .before .before .before .before .before .before in (s .pre .0, (s .pre .1 .0, (s .pre .1 .1 .0, (s .pre .1 .1 .1, settled-by (c .before .before .before .before .is-settled .ensures) (c .before .before .before .if1 .taken)))))
+
+same-length-2 : tie.Need-same-length-2
+same-length-2 c = search needs
+
+returns-2 : tie.Need-returns-2
+returns-2 c = search needs
+
+walk-one-requires : tie.Need-walk-one-requires
+walk-one-requires c κs = search needs
+
+same-length-3 : tie.Need-same-length-3
+same-length-3 c = search needs
+
+returns-3 : tie.Need-returns-3
+returns-3 c = search needs
+
+pub walk-spec : {M : Type 1} → statement M
+walk-spec =
+    tie.close
+    (tie.spec
+    is-settled-requires
+    walk-plain-requires
+    same-length
+    returns
+    walk-over-requires
+    same-length-2
+    returns-2
+    walk-one-requires
+    same-length-3
+    returns-3)

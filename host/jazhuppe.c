@@ -1,0 +1,527 @@
+/* jazhuppe.c: finds where a seat rule occurs in seating plans. See jazhuppe.1, and jazhuppe.h for the finder. */
+#define _POSIX_C_SOURCE 200809L
+#define _DEFAULT_SOURCE /* MAP_ANONYMOUS, MAP_NORESERVE */
+#define _FILE_OFFSET_BITS 64
+#include <errno.h>
+#include <fcntl.h>
+#include <inttypes.h>
+#include <signal.h>
+#include <stdbool.h>
+#include <stdio.h>
+#include <stdlib.h>
+#include <string.h>
+#include <sys/mman.h>
+#include <sys/stat.h>
+#include <unistd.h>
+
+#include "jazhuppe.h"
+
+/* As grep's. */
+enum { FOUND = 0, NONE = 1, TROUBLE = 2 };
+
+enum { PIECE = 4096 };
+static const uint64_t mebibyte = 1024 * 1024;
+
+/* What is printed of an occurrence. */
+typedef enum { ENDS, STARTS, TEXTS } output;
+
+typedef struct {
+    const uint8_t *bytes;
+    size_t length;
+    uint32_t fold;
+} rule;
+
+/* One plan: its descriptor, its name, and what its lines begin with. */
+typedef struct {
+    int descriptor;
+    const char *name;
+    bool named;
+    uint64_t size; /* 0 where it is not known */
+} plan;
+
+static const char usage_line[] = "usage: jazhuppe [-i] [-e | -s | -t] RULE [FILE...]\n";
+
+static const char help_text[] =
+    "Finds where a seat rule occurs in seating plans, after references such as &amp;\n"
+    "and &#38; have been decoded. Without FILE, or where FILE is -, it reads standard\n"
+    "input.\n"
+    "\n"
+    "  -e         print where occurrences end, reading on with constant memory (default)\n"
+    "  -s         print where occurrences start\n"
+    "  -t         print FILE:START:TEXT, from each start to the earliest end there\n"
+    "  -i         small and capital letters A to Z are alike\n"
+    "  --         no more options: RULE may begin with -\n"
+    "  --help     print this and exit\n"
+    "  --version  print the version and exit\n"
+    "\n"
+    "Places count decoded bytes: a start from 0, an end up to and including the last\n"
+    "byte. Each is printed on a line of its own, after FILE: where there are several.\n"
+    "In TEXT a control byte or \\ is printed as \\n, \\t, \\r, \\\\ or \\xHH.\n"
+    "\n"
+    "In a rule . is any byte, [a-z] [^a-z] a class, {a,b} a gap of a to b bytes; ? + *\n"
+    "after an element make it optional, repeatable, or both; \\ takes a mark as it is.\n"
+    "\n"
+    "Exit status: 0 something was found, 1 nothing, 2 trouble.\n";
+
+/* The requirement's words for each refusal. */
+static const char *const refusal_words[] = {
+    "",
+    "the rule is empty",
+    "the rule is over 255 bytes",
+    "class unclosed, empty, with a reversed range, a bad \\ or misplaced -, or left with no byte",
+    "gap not of the form {a,b} with one or two digits each, a > b, or b = 0",
+    "?, + or * first, after a gap, or after another of them",
+    "bad or last \\, or stray ] or }",
+    "this element takes the positions past 63",
+    "the rule admits the empty string",
+    "list or buffer too short",
+    "more than 4294967295 bytes",
+    "impossible scan value",
+    "scan already finished",
+};
+
+/* ---- progress, on a terminal */
+
+static struct {
+    bool wanted, shown;
+    uint64_t next;
+} progress;
+
+static void hide_progress(void)
+{
+    if (!progress.shown)
+        return;
+    fputs("\r\033[K", stderr);
+    progress.shown = false;
+}
+
+/* After each 64 MiB. */
+static void show_progress(const plan *p, const char *doing, uint64_t bytes)
+{
+    if (!progress.wanted || bytes < progress.next)
+        return;
+    progress.next = bytes + 64 * mebibyte;
+    fprintf(stderr, "\rjazhuppe: %s: %s %" PRIu64, p->name, doing, bytes / mebibyte);
+    if (p->size > bytes)
+        fprintf(stderr, " of %" PRIu64, p->size / mebibyte);
+    fputs(" MiB\033[K", stderr);
+    progress.shown = true;
+}
+
+static void begin_progress(void)
+{
+    hide_progress();
+    progress.next = 64 * mebibyte;
+}
+
+/* ---- trouble */
+
+static void trouble(const char *name, const char *words)
+{
+    hide_progress();
+    fprintf(stderr, "jazhuppe: %s: %s\n", name, words);
+}
+
+/* What errno says of a plan. */
+static int failed(const plan *p)
+{
+    trouble(p->name, strerror(errno));
+    return TROUBLE;
+}
+
+static void refused_plan(const plan *p, uint32_t number)
+{
+    hide_progress();
+    fprintf(stderr, "jazhuppe: %s: refused %" PRIu32 ": %s\n", p->name, number, refusal_words[number]);
+}
+
+/* A byte that goes on a character of UTF-8 takes no column of its own. */
+static bool begins_character(uint8_t c)
+{
+    return (c & 0xC0) != 0x80;
+}
+
+static void print_rule_byte(uint8_t c)
+{
+    putc(c < ' ' || c == 127 ? '?' : c, stderr);
+}
+
+/* Prints the rule, or the part of a long one around the place, and a caret under the place. */
+static void point_at(const rule *r, size_t place)
+{
+    enum { BEFORE = 60, AFTER = 16 };
+    size_t from = place > BEFORE ? place - BEFORE : 0;
+    size_t to = r->length - place > AFTER ? place + AFTER : r->length, column = 2;
+
+    while (from > 0 && !begins_character(r->bytes[from]))
+        from--;
+    while (to < r->length && !begins_character(r->bytes[to]))
+        to++;
+    fputs("  ", stderr);
+    for (size_t i = from; i < to; i++) {
+        print_rule_byte(r->bytes[i]);
+        column += i < place && begins_character(r->bytes[i]);
+    }
+    if (place < r->length && !begins_character(r->bytes[place]))
+        column--;
+    fprintf(stderr, "\n%*s^\n", (int)column, "");
+}
+
+static void refused_rule(const rule *r, jazhuppe_prepared p)
+{
+    fprintf(stderr, "jazhuppe: refused %" PRIu32 " at %" PRIu32 ": %s\n", p.number, p.place, refusal_words[p.number]);
+    point_at(r, p.place);
+}
+
+/* ---- lines */
+
+/* What went wrong when a line was first lost, or 0. */
+static int write_error;
+
+static void begin_line(const plan *p)
+{
+    hide_progress();
+    if (p->named)
+        printf("%s:", p->name);
+}
+
+static void end_line(void)
+{
+    putchar('\n');
+    if (ferror(stdout) && write_error == 0)
+        write_error = errno;
+}
+
+static void print_places(const plan *p, const uint32_t *places, uint32_t count)
+{
+    for (uint32_t i = 0; i < count && write_error == 0; i++) {
+        begin_line(p);
+        printf("%" PRIu32, places[i]);
+        end_line();
+    }
+}
+
+/* So that an occurrence is one line, can be told apart from another, and does nothing to a terminal. */
+static void print_text_byte(uint8_t c)
+{
+    static const char escaped[] = "\n\t\r\\", letters[] = "ntr\\";
+    const char *at = c == 0 ? NULL : strchr(escaped, c);
+
+    if (at != NULL)
+        printf("\\%c", letters[at - escaped]);
+    else if (c < ' ' || c == 127)
+        printf("\\x%02X", c);
+    else
+        putchar(c);
+}
+
+static void print_texts(const plan *p, const rule *r, const uint8_t *text, size_t length, const uint32_t *starts,
+                        uint32_t count)
+{
+    for (uint32_t i = 0; i < count && write_error == 0; i++) {
+        jazhuppe_span shown = jazhuppe_show(r->bytes, r->length, r->fold, text, length, starts[i]);
+
+        begin_line(p);
+        printf("%" PRIu32 ":", starts[i]);
+        for (size_t at = shown.from; at < shown.to; at++)
+            print_text_byte(text[at]);
+        end_line();
+    }
+}
+
+/* ---- the forward scan */
+
+/* As read(2), begun again after a signal; -1 has been told. */
+static ssize_t read_some(const plan *p, uint8_t *bytes, size_t room)
+{
+    ssize_t n;
+
+    do {
+        n = read(p->descriptor, bytes, room);
+    } while (n < 0 && errno == EINTR);
+    if (n < 0)
+        failed(p);
+    return n;
+}
+
+/* Trouble in one is trouble in both; else something found in one is. */
+static int both(int a, int b)
+{
+    if (a == TROUBLE || b == TROUBLE)
+        return TROUBLE;
+    return a == FOUND || b == FOUND ? FOUND : NONE;
+}
+
+/* Prints a scan call's ends: the exit status that they come to. */
+static int take_ends(const plan *p, jazhuppe_answer a, const uint32_t *ends)
+{
+    if (a.number != 0) {
+        refused_plan(p, a.number);
+        return TROUBLE;
+    }
+    print_places(p, ends, a.count);
+    return a.count > 0 ? FOUND : NONE;
+}
+
+static int feed_piece(const plan *p, uint64_t *scan, const uint8_t *piece, size_t length)
+{
+    uint32_t ends[PIECE + JAZHUPPE_HELD_MOST];
+    size_t list = length + JAZHUPPE_HELD_MOST;
+
+    return take_ends(p, jazhuppe_feed(scan, JAZHUPPE_SCAN_WORDS, piece, length, ends, list), ends);
+}
+
+static int finish_plan(const plan *p, uint64_t *scan)
+{
+    uint32_t ends[JAZHUPPE_HELD_MOST];
+
+    return take_ends(p, jazhuppe_finish(scan, JAZHUPPE_SCAN_WORDS, ends, JAZHUPPE_HELD_MOST), ends);
+}
+
+static int scan_plan(const plan *p, const rule *r)
+{
+    uint64_t scan[JAZHUPPE_SCAN_WORDS], taken = 0;
+    uint8_t piece[PIECE];
+    int status = NONE;
+    ssize_t n;
+
+    jazhuppe_open(r->bytes, r->length, r->fold, scan, JAZHUPPE_SCAN_WORDS);
+    while ((n = read_some(p, piece, PIECE)) > 0) {
+        status = both(status, feed_piece(p, scan, piece, (size_t)n));
+        if (status == TROUBLE || write_error != 0)
+            return TROUBLE;
+        taken += (uint64_t)n;
+        show_progress(p, "scanned", taken);
+    }
+    return n < 0 ? TROUBLE : both(status, finish_plan(p, scan));
+}
+
+/* ---- the window search */
+
+/* A list whose entries take no memory until they are written: most of a search's never are. */
+static uint32_t *reserve_list(size_t entries)
+{
+    void *list = mmap(NULL, (entries + 1) * sizeof(uint32_t), PROT_READ | PROT_WRITE,
+                      MAP_PRIVATE | MAP_ANONYMOUS | MAP_NORESERVE, -1, 0);
+
+    return list == MAP_FAILED ? NULL : list;
+}
+
+static void release_list(uint32_t *list, size_t entries)
+{
+    munmap(list, (entries + 1) * sizeof *list);
+}
+
+/* Searches a decoded text and prints what it finds. */
+static int search_text(const plan *p, const rule *r, output printed, const uint8_t *text, size_t length)
+{
+    uint32_t *starts = reserve_list(length);
+    jazhuppe_answer a;
+
+    if (starts == NULL)
+        return failed(p);
+    begin_progress();
+    show_progress(p, "searching", length);
+    a = jazhuppe_search(r->bytes, r->length, r->fold, text, length, starts, length);
+    if (a.number != 0)
+        refused_plan(p, a.number);
+    else if (printed == STARTS)
+        print_places(p, starts, a.count);
+    else
+        print_texts(p, r, text, length, starts, a.count);
+    release_list(starts, length);
+    return a.number != 0 ? TROUBLE : a.count > 0 ? FOUND : NONE;
+}
+
+/* A plan's bytes, read whole. */
+typedef struct {
+    uint8_t *bytes;
+    size_t length, room;
+} whole;
+
+/* Makes room for more, up to one byte over the limit. */
+static bool grow(whole *w)
+{
+    size_t most = (size_t)JAZHUPPE_TEXT_MOST + 1, room = w->room < most / 2 ? 2 * w->room : most;
+    uint8_t *bytes = realloc(w->bytes, room);
+
+    if (bytes == NULL)
+        return false;
+    w->bytes = bytes;
+    w->room = room;
+    return true;
+}
+
+/* Reads the plan up to its end, or up to one byte over the limit. The file is read and not mapped, as another process
+ * may write it meanwhile. */
+static int read_whole(const plan *p, whole *w)
+{
+    ssize_t n;
+
+    w->room = p->size + mebibyte;
+    w->bytes = malloc(w->room);
+    if (w->bytes == NULL)
+        return failed(p);
+    while ((n = read_some(p, w->bytes + w->length, w->room - w->length)) > 0) {
+        w->length += (size_t)n;
+        show_progress(p, "read", w->length);
+        if (w->length > JAZHUPPE_TEXT_MOST)
+            break;
+        if (w->length == w->room && !grow(w))
+            return failed(p);
+    }
+    return n < 0 ? TROUBLE : NONE;
+}
+
+/* Decodes the plan and searches the text. */
+static int search_whole(const plan *p, const rule *r, output printed, const whole *raw)
+{
+    uint8_t *text = malloc(raw->length + 1);
+    jazhuppe_answer a;
+    int status = TROUBLE;
+
+    if (text == NULL)
+        return failed(p);
+    a = jazhuppe_decode(raw->bytes, raw->length, text, raw->length);
+    if (a.number != 0)
+        refused_plan(p, a.number);
+    else
+        status = search_text(p, r, printed, text, a.count);
+    free(text);
+    return status;
+}
+
+static int search_plan(const plan *p, const rule *r, output printed)
+{
+    whole raw = {NULL, 0, 0};
+    int status;
+
+    if (p->size > JAZHUPPE_TEXT_MOST) {
+        refused_plan(p, JAZHUPPE_TOO_MUCH);
+        return TROUBLE;
+    }
+    status = read_whole(p, &raw);
+    if (status != TROUBLE)
+        status = search_whole(p, r, printed, &raw);
+    free(raw.bytes);
+    return status;
+}
+
+/* ---- plans */
+
+static uint64_t known_size(int descriptor)
+{
+    struct stat s;
+
+    return fstat(descriptor, &s) == 0 && S_ISREG(s.st_mode) ? (uint64_t)s.st_size : 0;
+}
+
+static int find_in(const char *name, bool named, const rule *r, output printed)
+{
+    bool standard = strcmp(name, "-") == 0;
+    plan p = {standard ? STDIN_FILENO : open(name, O_RDONLY), name, named, 0};
+    int status;
+
+    if (p.descriptor < 0)
+        return failed(&p);
+    p.size = known_size(p.descriptor);
+    begin_progress();
+    status = printed == ENDS ? scan_plan(&p, r) : search_plan(&p, r, printed);
+    hide_progress();
+    if (!standard)
+        close(p.descriptor);
+    return status;
+}
+
+static int find(const rule *r, output printed, char **names, int count)
+{
+    bool named = count > 1 || printed == TEXTS;
+    int status = NONE;
+
+    if (count == 0)
+        return find_in("-", named, r, printed);
+    for (int i = 0; i < count && write_error == 0; i++)
+        status = both(status, find_in(names[i], named, r, printed));
+    return status;
+}
+
+/* Nothing printed may be lost without a word; a reader that has gone away needs none. */
+static int closed(int status)
+{
+    if (fflush(stdout) != 0 && write_error == 0)
+        write_error = errno;
+    if (write_error == 0)
+        return status;
+    if (write_error != EPIPE)
+        trouble("standard output", strerror(write_error));
+    return TROUBLE;
+}
+
+/* ---- options */
+
+static int misused(const char *words, const char *argument)
+{
+    fprintf(stderr, "jazhuppe: %s%s\n%sTry 'jazhuppe --help'.\n", words, argument, usage_line);
+    return TROUBLE;
+}
+
+static int print_help(void)
+{
+    fputs(usage_line, stdout);
+    fputs(help_text, stdout);
+    return closed(FOUND);
+}
+
+static int print_version(void)
+{
+    puts("jazhuppe " JAZHUPPE_VERSION);
+    return closed(FOUND);
+}
+
+/* The letters of one argument; false if there is another among them. */
+static bool take_letters(const char *letters, rule *r, output *printed)
+{
+    for (; *letters != '\0'; letters++) {
+        switch (*letters) {
+        case 'i': r->fold = 1; break;
+        case 'e': *printed = ENDS; break;
+        case 's': *printed = STARTS; break;
+        case 't': *printed = TEXTS; break;
+        default: return false;
+        }
+    }
+    return true;
+}
+
+int main(int argc, char **argv)
+{
+    rule r = {NULL, 0, 0};
+    output printed = ENDS;
+    jazhuppe_prepared prepared;
+    int at = 1;
+
+    for (; at < argc && argv[at][0] == '-' && argv[at][1] != '\0'; at++) {
+        if (strcmp(argv[at], "--") == 0) {
+            at++;
+            break;
+        }
+        if (strcmp(argv[at], "--help") == 0)
+            return print_help();
+        if (strcmp(argv[at], "--version") == 0)
+            return print_version();
+        if (!take_letters(argv[at] + 1, &r, &printed))
+            return misused("no such option: ", argv[at]);
+    }
+    if (at == argc)
+        return misused("RULE is missing", "");
+    r.bytes = (const uint8_t *)argv[at];
+    r.length = strlen(argv[at]);
+    prepared = jazhuppe_prepare(r.bytes, r.length, r.fold);
+    if (prepared.number != 0) {
+        refused_rule(&r, prepared);
+        return TROUBLE;
+    }
+    signal(SIGPIPE, SIG_IGN);
+    progress.wanted = isatty(STDERR_FILENO) != 0;
+    return closed(find(&r, printed, argv + at + 1, argc - at - 1));
+}

@@ -1,0 +1,43 @@
+#!/bin/sh
+# Runs the host tests, which make has built: under valgrind where it is there. CC, CXX and PROGRAM are make's.
+cd "$(dirname "$0")/../.." || exit 2
+failed=0
+
+if command -v valgrind > /dev/null; then
+    watched() { valgrind -q --error-exitcode=1 "$@"; }
+else
+    echo "valgrind is not there: the tests run without it"
+    watched() { "$@"; }
+fi
+
+# The test's name, then its command.
+try() {
+    name=$1
+    shift
+    echo "== $name"
+    "$@" || { echo "FAILED $name"; failed=1; }
+}
+
+header() {
+    "$@" -Wall -Wextra -Wpedantic -Werror -fsyntax-only include/jazhuppe.h && echo "ok the header, as $*"
+}
+
+try "header" header "${CC:-cc}" -std=c99 -x c
+if command -v "${CXX:-c++}" > /dev/null; then
+    try "header" header "${CXX:-c++}" -std=c++11 -x c++
+else
+    echo "a C++ compiler is not there: the header is not tried with one"
+fi
+try "marked" watched build/test/marked
+try "refusals" watched build/test/refusals
+try "scan values" watched build/test/scan_values
+# It maps gigabytes, which valgrind would count byte by byte.
+try "limits" build/test/limits
+try "differential, watched" watched build/test/differential 2 300
+try "differential" build/test/differential
+for option in -e -s -t; do
+    try "program, watched, $option" watched "${PROGRAM:-build/jazhuppe}" "$option" 'Row A&B [0-9]+' host/sample.xml
+done
+try "command line" sh host/test/cli.sh
+[ "$failed" -eq 0 ] && echo "host tests: all ok"
+exit "$failed"

@@ -1,0 +1,160 @@
+#!/bin/sh
+# The command line program: what it prints, and its exit status. PROGRAM is its path.
+program=$(realpath "${PROGRAM:-build/jazhuppe}") || exit 2
+header=$(realpath "$(dirname "$0")/../../include/jazhuppe.h") || exit 2
+work=$(mktemp -d) || exit 2
+trap 'rm -rf "$work"' EXIT
+cd "$work" || exit 2
+passed=0
+failed=0
+input=/dev/null
+
+ok() {
+    echo "ok $1"
+    passed=$((passed + 1))
+}
+
+not_ok() {
+    echo "FAILED $1"
+    failed=$((failed + 1))
+}
+
+# NAME, and the command that must succeed.
+holds() {
+    name=$1
+    shift
+    if "$@"; then ok "$name"; else not_ok "$name"; fi
+}
+
+# NAME STATUS OUT ERR ARGUMENT..: runs the program on the file that `input` names; OUT and ERR are as for printf %b.
+expect() {
+    name=$1 status=$2
+    printf '%b' "$3" > expected_out
+    printf '%b' "$4" > expected_err
+    shift 4
+    "$program" "$@" < "$input" > out 2> err
+    got=$?
+    if [ "$got" -eq "$status" ] && cmp -s out expected_out && cmp -s err expected_err; then
+        ok "$name"
+    else
+        not_ok "$name: exit status $got, expected $status; what was printed, then what was expected:"
+        cat out err
+        echo "--"
+        cat expected_out expected_err
+    fi
+}
+
+printf 'Row A&B 11\nRow A&amp;B 12\nRow A&#38;B 13\n' > three
+printf 'no seat\n' > none
+printf 'x\ta\\b\n\001y' > control
+printf 'A&am' > unfinished
+printf 'Caf\303\251 1, Caf&#xE9; 2' > utf8
+: > empty
+
+# What is found.
+expect "ends, by default" 0 '9\n10\n20\n21\n31\n32\n' '' 'Row A&B [0-9]+' three
+expect "ends, -e" 0 '10\n21\n32\n' '' -e 'Row A&B [0-9][0-9]' three
+expect "starts, -s" 0 '0\n11\n22\n' '' -s 'Row A&B [0-9]+' three
+expect "texts, -t, to the earliest end" 0 'three:0:Row A&B 1\nthree:11:Row A&B 1\nthree:22:Row A&B 1\n' '' \
+    -t 'Row A&B [0-9]+' three
+expect "the last of -e -s -t counts" 0 '0\n11\n22\n' '' -e -t -es 'Row' three
+expect "-i folds" 0 '3\n14\n25\n' '' -i 'rOW' three
+expect "no fold without it" 1 '' '' 'rOW' three
+expect "letters joined" 0 'three:0:Row\nthree:11:Row\nthree:22:Row\n' '' -it 'rOW' three
+expect "several files" 0 'three:3\nthree:14\nthree:25\n' '' 'Row' three none
+expect "several files, starts" 0 'none:3\nthree:0\nthree:11\nthree:22\nnone:3\n' '' -s '[Rs][oe][wa]' none three none
+expect "bytes of UTF-8" 0 'utf8:0:Caf\0303\0251 1\nutf8:9:Caf\0303\0251 2\n' '' -t 'Café [0-9]' utf8
+expect "nothing found" 1 '' '' 'Row' none
+expect "an empty plan" 1 '' '' '.' empty
+expect "an empty plan, starts" 1 '' '' -s '.' empty
+expect "what is held back at the plan's end" 0 '4\n' '' 'A&am' unfinished
+expect "control bytes in a text" 0 'control:0:x\\ta\\\\b\\n\\x01y\n' '' -t 'x.+y' control
+expect "a rule that begins with -" 1 '' '' -- '-x' three
+input=three
+expect "standard input" 0 '3\n14\n25\n' '' 'Row'
+expect "standard input as -, among files" 0 '-:3\n-:14\n-:25\n' '' 'Row' none -
+expect "standard input, texts" 0 '-:0:Row\n-:11:Row\n-:22:Row\n' '' -t 'Row'
+input=/dev/null
+
+# Trouble.
+usage='usage: jazhuppe [-i] [-e | -s | -t] RULE [FILE...]\n'
+expect "a plan that is not there" 2 'three:3\nthree:14\nthree:25\n' 'jazhuppe: gone: No such file or directory\n' \
+    'Row' gone three
+expect "a folder" 2 '' 'jazhuppe: .: Is a directory\n' 'Row' .
+expect "a folder, starts" 2 '' 'jazhuppe: .: Is a directory\n' -s 'Row' .
+expect "no rule" 2 '' "jazhuppe: RULE is missing\n${usage}Try 'jazhuppe --help'.\n"
+expect "no such option" 2 '' "jazhuppe: no such option: -x\n${usage}Try 'jazhuppe --help'.\n" -x 'Row'
+expect "no such long option" 2 '' "jazhuppe: no such option: --fold\n${usage}Try 'jazhuppe --help'.\n" --fold 'Row'
+
+# Refusals, with a caret under the place.
+expect "refused 1" 2 '' 'jazhuppe: refused 1 at 0: the rule is empty\n  \n  ^\n' ''
+expect "refused 3" 2 '' "jazhuppe: refused 3 at 4: class unclosed, empty, with a reversed range, a bad \\\\ or misplaced -,\
+ or left with no byte\n  Row [b-a]\n      ^\n" 'Row [b-a]'
+expect "refused 4" 2 '' 'jazhuppe: refused 4 at 1: gap not of the form {a,b} with one or two digits each, a > b, or b = 0
+  a{3}\n   ^\n' 'a{3}'
+expect "refused 5" 2 '' 'jazhuppe: refused 5 at 2: ?, + or * first, after a gap, or after another of them\n  a+*\n    ^\n' \
+    'a+*'
+expect "refused 6, after bytes of UTF-8" 2 '' 'jazhuppe: refused 6 at 5: bad or last \\, or stray ] or }
+  Caf\0303\0251]\n      ^\n' 'Café]'
+expect "refused 7" 2 '' 'jazhuppe: refused 7 at 6: this element takes the positions past 63\n  {1,63}a\n        ^\n' \
+    '{1,63}a'
+expect "refused 8" 2 '' 'jazhuppe: refused 8 at 2: the rule admits the empty string\n  a?\n    ^\n' 'a?' gone
+long=$(printf '%0300d' 0)
+expect "refused 2, the rule in part" 2 '' "jazhuppe: refused 2 at 255: the rule is over 255 bytes
+  $(printf '%076d' 0)\n$(printf '%62s' '')^\n" "$long"
+
+# Help.
+version=$(sed -n 's/^#define JAZHUPPE_VERSION "\(.*\)"/\1/p' "$header")
+expect "--version" 0 "jazhuppe $version\n" '' --version
+"$program" --help > out
+holds "--help" [ "$? $(head -n 1 out)" = "0 usage: jazhuppe [-i] [-e | -s | -t] RULE [FILE...]" ]
+
+# A reference that a piece of 4,096 bytes cuts, at each place in it.
+cut_everywhere() {
+    for before in 4090 4091 4092 4093 4094 4095 4096; do
+        { head -c "$before" /dev/zero | tr '\0' '.'; printf 'A&#38;B'; } > severed
+        [ "$("$program" 'A&B' severed)" = "$((before + 3))" ] || return 1
+        [ "$("$program" -s 'A&B' severed)" = "$before" ] || return 1
+    done
+}
+holds "a reference cut between pieces" cut_everywhere
+
+# Output that cannot be written.
+if [ -w /dev/full ]; then
+    "$program" 'Row' three > /dev/full 2> err
+    holds "a full disk is trouble" [ "$? $(cat err)" = "2 jazhuppe: standard output: No space left on device" ]
+fi
+yes a | head -c 1000000 > many
+{ "$program" 'a' many 2> err; echo $? > status; } | head -n 1 > out
+holds "a closed pipe is trouble, without words" [ "$(cat status out err)" = "2
+1" ]
+
+# 300 MB as a stream: 20,000,000 lines of 15 bytes that decode to 11 each. The program may have 16 MiB in all.
+long_stream() {
+    { yes 'Row A&amp;B 12' | head -c 300000000; printf 'Seat 7'; }
+}
+bounded() {
+    long_stream | (ulimit -v 16384 && exec "$program" 'Seat 7')
+}
+holds "300 MB as a stream, in 16 MiB" [ "$(bounded)" = 220000006 ]
+if [ -x /usr/bin/time ]; then
+    long_stream | /usr/bin/time -f '%M' -o peak "$program" 'Seat 7' > out
+    holds "300 MB as a stream: peak memory $(cat peak) KiB" [ "$(cat peak)" -lt 4096 ]
+fi
+
+# The limit, in files without blocks.
+if truncate -s 4294967296 over 2> err && truncate -s 4294967295 most 2> err; then
+    words='jazhuppe: over: refused 10: more than 4294967295 bytes\n'
+    expect "refused 10" 2 '' "$words" 'Row' over
+    expect "refused 10, starts" 2 '' "$words" -s 'Row' over
+    expect "as much as may be" 1 '' '' 'Row' most
+fi
+
+# Progress, where standard error is a terminal.
+if command -v script > /dev/null && truncate -s 200M large 2> err; then
+    script -qec "$program 'Row' large" /dev/null > out < /dev/null
+    holds "progress on a terminal" grep -q 'jazhuppe: large: scanned 128 of 200 MiB' out
+fi
+
+echo "command line: $passed ok, $failed failed"
+[ "$failed" -eq 0 ]

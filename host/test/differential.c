@@ -1,0 +1,626 @@
+/* differential.c: random cases through the header, each answer and every lent entry held against the second
+ * implementation. `differential [SEED [CASES]]`; a difference prints the whole case and ends the run. */
+#include <stdarg.h>
+#include <stdio.h>
+#include <stdlib.h>
+#include <string.h>
+
+#include "jazhuppe.h"
+#include "random.h"
+#include "second.h"
+#include "testing.h"
+
+enum { WORDS = JAZHUPPE_SCAN_WORDS, NINE = JAZHUPPE_HELD_MOST, RULE_ROOM = 320, PLAN_MOST = 1536 };
+
+typedef struct {
+    uint8_t rule[RULE_ROOM];
+    size_t rule_len;
+    uint32_t fold;
+    uint8_t plan[PLAN_MOST];
+    size_t plan_len, plan_most;
+    uint8_t text[PLAN_MOST];
+    size_t text_len;
+    second_rule read;
+} test_case;
+
+static unsigned long long seed = 1;
+static unsigned cases = 20000, case_number;
+static random_source source;
+static test_case now;
+static lent rule_room, text_room, scan_room, list_room;
+
+/* Memory for a text over the limit, which nobody may touch. */
+static const size_t over = (size_t)JAZHUPPE_TEXT_MOST + 1;
+static const uint8_t *too_much;
+
+static uint32_t below(uint32_t most)
+{
+    return random_below(&source, most);
+}
+
+static bool one_in(uint32_t n)
+{
+    return below(n) == 0;
+}
+
+/* ---- what was asked, for the report of a difference */
+
+enum { PREPARE, OPEN, FEED, FINISH, DECODE, SEARCH, SHOW, CALLS };
+static const char *const call_names[CALLS] = {"prepare", "open", "feed", "finish", "decode", "search", "show"};
+static unsigned long counts[CALLS][13], ends_seen, starts_seen, shown_seen, windows_seen, held_seen, decoded_seen;
+
+static char asked[16384];
+static size_t asked_len;
+
+static void note(const char *format, ...)
+{
+    va_list args;
+    size_t room = sizeof asked - asked_len;
+    int n;
+
+    va_start(args, format);
+    n = vsnprintf(asked + asked_len, room, format, args);
+    va_end(args);
+    if (n > 0)
+        asked_len += (size_t)n < room ? (size_t)n : room - 1;
+}
+
+static void print_bytes(const char *name, const uint8_t *bytes, size_t length)
+{
+    printf("%s (%zu bytes): ", name, length);
+    for (size_t i = 0; i < length; i++)
+        printf(bytes[i] >= ' ' && bytes[i] < 127 ? "%c" : "\\x%02X", bytes[i]);
+    putchar('\n');
+}
+
+static void print_list(const char *name, const uint32_t *list, size_t count)
+{
+    printf("%s:", name);
+    for (size_t i = 0; i < count; i++)
+        printf(" %lu", (unsigned long)list[i]);
+    putchar('\n');
+}
+
+static void different(const char *what)
+{
+    printf("DIFFERENCE in %s: seed %llu, case %u\n", what, seed, case_number);
+    print_bytes("rule", now.rule, now.rule_len);
+    printf("fold: %lu\n", (unsigned long)now.fold);
+    print_bytes("plan", now.plan, now.plan_len);
+    print_bytes("text", now.text, now.text_len);
+    printf("calls, in order:\n%s", asked);
+    printf("differential: 0 ok, 1 failed\n");
+    exit(EXIT_FAILURE);
+}
+
+static void hold_prepared(int call, jazhuppe_prepared given, jazhuppe_prepared expected)
+{
+    counts[call][expected.number % 13]++;
+    if (memcmp(&given, &expected, sizeof given) == 0)
+        return;
+    printf("given %lu at %lu, positions %lu, shortest %lu\n", (unsigned long)given.number, (unsigned long)given.place,
+           (unsigned long)given.positions, (unsigned long)given.shortest);
+    printf("expected %lu at %lu, positions %lu, shortest %lu\n", (unsigned long)expected.number,
+           (unsigned long)expected.place, (unsigned long)expected.positions, (unsigned long)expected.shortest);
+    different(call_names[call]);
+}
+
+static void print_answer(const char *name, jazhuppe_answer a)
+{
+    printf("%s %lu at %lu, count %lu, windows %lu\n", name, (unsigned long)a.number, (unsigned long)a.place,
+           (unsigned long)a.count, (unsigned long)a.windows);
+}
+
+static void hold_answer(int call, jazhuppe_answer given, jazhuppe_answer expected)
+{
+    counts[call][expected.number % 13]++;
+    if (memcmp(&given, &expected, sizeof given) == 0)
+        return;
+    print_answer("given", given);
+    print_answer("expected", expected);
+    different(call_names[call]);
+}
+
+/* The list that was lent last: the expected entries, and past them what stood there. */
+static void hold_list(int call, const uint32_t *expected, size_t count)
+{
+    const uint32_t *given = (const uint32_t *)(const void *)list_room.slice;
+
+    if (!untouched_past(&list_room, count * sizeof *expected))
+        different("entries past those reported, or around the list");
+    if (memcmp(given, expected, count * sizeof *expected) == 0)
+        return;
+    print_list("given", given, count);
+    print_list("expected", expected, count);
+    different(call_names[call]);
+}
+
+static void hold_lent(void)
+{
+    if (!untouched(&rule_room) || !untouched(&text_room))
+        different("what was lent for reading");
+}
+
+/* ---- rules and plans */
+
+static const uint8_t alphabet[] = {'a', 'b', 'c', 'A', 'B', 'x', '&', ';', '#', '1', '8', 0xC3, 0xA9, '\n', 0, '-'};
+
+static uint8_t any_letter(void)
+{
+    return one_in(40) ? (uint8_t)below(256) : alphabet[below(one_in(3) ? sizeof alphabet : 3)];
+}
+
+static void put(uint8_t c)
+{
+    if (now.rule_len < RULE_ROOM)
+        now.rule[now.rule_len++] = c;
+}
+
+static void put_text(const char *s)
+{
+    while (*s != '\0')
+        put((uint8_t)*s++);
+}
+
+static void put_byte(uint8_t c)
+{
+    if (c != 0 && strchr(".[]{}?+*\\", c) != NULL)
+        put('\\');
+    put(c);
+}
+
+static void put_class_byte(uint8_t c)
+{
+    if (c == ']' || c == '\\' || c == '-' || c == '^' || one_in(50))
+        put('\\');
+    put(c);
+}
+
+static void put_class(void)
+{
+    put('[');
+    if (one_in(3))
+        put('^');
+    for (uint32_t n = 1 + below(3); n > 0; n--) {
+        uint8_t lo = any_letter(), hi = any_letter();
+
+        put_class_byte(lo < hi || one_in(100) ? lo : hi);
+        if (one_in(2)) {
+            put('-');
+            put_class_byte(lo < hi ? hi : lo);
+        }
+    }
+    put(']');
+}
+
+static void put_gap(void)
+{
+    uint32_t lo = below(one_in(6) ? 64 : 3), hi = lo + below(one_in(6) ? 64 : 3);
+    char gap[32];
+
+    snprintf(gap, sizeof gap, one_in(20) ? "{%02lu,%02lu}" : "{%lu,%lu}", (unsigned long)lo,
+             (unsigned long)(hi == 0 && !one_in(20) ? 1 : hi));
+    put_text(gap);
+}
+
+static void put_element(void)
+{
+    static const char *const odd[] = {
+        "[^]", "[]", "{0,0}", "\\", "]", "}", "[a-b-c]", "[", "{1,", "{2,1}", "[b-a]", "??", "[\\^-a]", "[+-\\-]",
+        "{001,2}", "{1,63}", "{3,3}", "\\^\\-", "[^\\]]",
+    };
+    uint32_t kind = below(20);
+
+    if (kind < 10)
+        put_byte(any_letter());
+    else if (kind < 12)
+        put('.');
+    else if (kind < 15)
+        put_class();
+    else if (kind < 18)
+        put_gap();
+    else if (one_in(6))
+        put_text(odd[below(sizeof odd / sizeof odd[0])]);
+    if ((kind < 15 && one_in(2)) || one_in(60))
+        put((uint8_t)"?+*"[below(3)]);
+}
+
+static void make_rule(void)
+{
+    uint32_t elements = one_in(30) ? below(90) : 1 + below(7);
+
+    now.rule_len = 0;
+    now.fold = one_in(3) ? (one_in(2) ? 1 : (uint32_t)1 << below(32)) : 0;
+    if (one_in(100))
+        elements = 0;
+    if (one_in(100)) {
+        put('[');
+        while (now.rule_len < 250 + below(10))
+            put('a');
+        put(']');
+    }
+    while (elements-- > 0)
+        put_element();
+    if (one_in(100))
+        while (now.rule_len < 256 + below(60))
+            put_byte(any_letter());
+    if (now.rule_len > 0 && one_in(25))
+        now.rule[below((uint32_t)now.rule_len)] = (uint8_t)below(256);
+    now.read = second_read(now.rule, now.rule_len, now.fold);
+}
+
+static void plan_byte(uint8_t c)
+{
+    if (now.plan_len < now.plan_most)
+        now.plan[now.plan_len++] = c;
+}
+
+static void plan_text(const char *s)
+{
+    while (*s != '\0')
+        plan_byte((uint8_t)*s++);
+}
+
+/* A byte as it is, or spelt as a reference. */
+static void plan_spelt(uint8_t c)
+{
+    char form[16];
+
+    if (!one_in(6)) {
+        plan_byte(c);
+        return;
+    }
+    snprintf(form, sizeof form, one_in(2) ? "&#%u;" : one_in(2) ? "&#x%X;" : "&#x%03x;", (unsigned)c);
+    plan_text(form);
+}
+
+static uint8_t any_of(const second_position *p)
+{
+    uint8_t c = any_letter();
+
+    for (int tries = 0; tries < 400 && !p->admits[c]; tries++)
+        c = tries < 40 ? any_letter() : (uint8_t)below(256);
+    return c;
+}
+
+/* Bytes that fill the rule's positions, mostly. */
+static void plan_occurrence(void)
+{
+    for (size_t i = 0; i < now.read.count; i++) {
+        const second_position *p = &now.read.positions[i];
+        uint32_t bytes = p->repeatable ? 1 + below(3) : 1;
+
+        if (one_in(30) || (p->optional && one_in(2)))
+            continue;
+        while (bytes-- > 0)
+            plan_spelt(any_of(p));
+    }
+}
+
+static void plan_part(void)
+{
+    static const char *const parts[] = {
+        "&amp;", "&lt;", "&gt;", "&apos;", "&quot;", "&amp;amp;", "&#38;", "&#x26;", "&#xE9;", "&#0;", "&am", "&", "&#",
+        "&#x", "&#12345678", "&#1234567", "&#xD7FF;", "&#xD800;", "&#xFFFE;", "&#x10FFFF;", "&#x110000;", "&#9;",
+        "&#8;", "&#00000038;", "&#0000038;", "&#x000026;", "&#x0000026;", "&AMP;", "&#X26;", "&amp", "&#;", "&#x;",
+        "&&amp;", ";",
+    };
+
+    if (one_in(3))
+        plan_text(parts[below(sizeof parts / sizeof parts[0])]);
+    else if (one_in(2))
+        plan_occurrence();
+    else
+        for (uint32_t n = below(6); n > 0; n--)
+            plan_byte(any_letter());
+}
+
+static void plan_run(uint8_t c)
+{
+    for (uint32_t n = below(150); n > 0; n--)
+        plan_byte(c);
+}
+
+/* A short plan, or a longer one in which the same byte stands between the parts. */
+static void make_plan(void)
+{
+    uint8_t between = any_letter();
+
+    now.plan_len = 0;
+    now.plan_most = one_in(30) ? 400 : 64;
+    for (uint32_t parts = below(7); parts > 0; parts--) {
+        plan_part();
+        if (now.plan_most > 64)
+            plan_run(between);
+    }
+}
+
+/* A rule and a plan for which verifying each start to its end would take the square of the plan's length. */
+static void make_hostile(void)
+{
+    static const char *const rules[] = {"a.*b", "a+b", "a{0,2}.*b", "a.+c?b", "[ab]*c", "aa*[^a]"};
+
+    now.rule_len = 0;
+    now.fold = 0;
+    put_text(rules[below(sizeof rules / sizeof rules[0])]);
+    now.read = second_read(now.rule, now.rule_len, now.fold);
+    now.plan_len = 0;
+    now.plan_most = PLAN_MOST;
+    while (now.plan_len < now.plan_most) {
+        plan_run('a');
+        if (one_in(12))
+            plan_part();
+    }
+}
+
+/* A list's or buffer's length: what is needed, one less, none, or more. */
+static size_t list_length(size_t needed)
+{
+    switch (below(10)) {
+    case 0: return needed == 0 ? 0 : needed - 1;
+    case 1: return one_in(3) ? 0 : needed;
+    case 2: return needed + 1 + below(5);
+    default: return needed;
+    }
+}
+
+static const uint8_t *lend_rule(void)
+{
+    return lend_bytes(&rule_room, now.rule, now.rule_len);
+}
+
+/* ---- the scan */
+
+static bool scanning;
+static second_scan plain;
+static uint64_t *scan;
+
+/* What the scan value must be, told from the bytes taken: every word of it. */
+static void expected_value(uint64_t *value)
+{
+    uint8_t text[SECOND_PLAN_MOST];
+    size_t length = second_text(&plain, text), held = plain.finished ? 0 : second_held(plain.taken, plain.length);
+    bool filled[JAZHUPPE_POSITIONS_MOST + 1];
+
+    memset(value, 0, WORDS * sizeof *value);
+    second_filled(&plain.rule, text, length, filled);
+    value[259] = 1;
+    for (size_t i = 1; i <= plain.rule.count; i++) {
+        const second_position *p = &plain.rule.positions[i - 1];
+
+        for (size_t c = 0; c < 256; c++)
+            value[c] |= (uint64_t)p->admits[c] << i;
+        value[256] |= (uint64_t)p->repeatable << i;
+        value[257] |= (uint64_t)p->optional << i;
+        value[259] |= (uint64_t)filled[i] << i;
+    }
+    value[258] = plain.rule.count;
+    value[260] = plain.finished;
+    value[261] = plain.length;
+    value[262] = length;
+    value[263] = held;
+    for (size_t i = 0; i < held; i++)
+        value[264 + i] = plain.taken[plain.length - held + i];
+}
+
+static void hold_value(void)
+{
+    uint64_t value[WORDS];
+
+    expected_value(value);
+    if (!untouched_past(&scan_room, sizeof value))
+        different("words around the scan value");
+    for (size_t i = 0; i < WORDS; i++) {
+        if (scan[i] == value[i])
+            continue;
+        printf("word %zu: given %llX, expected %llX\n", i, (unsigned long long)scan[i], (unsigned long long)value[i]);
+        different("the scan value");
+    }
+    lent_anew(&scan_room);
+}
+
+static void try_open(void)
+{
+    size_t words = one_in(20) ? WORDS - 1 + 2 * below(2) : WORDS;
+    jazhuppe_prepared expected = second_open(now.rule, now.rule_len, now.fold, &plain);
+    jazhuppe_prepared impossible = {JAZHUPPE_IMPOSSIBLE, 0, 0, 0};
+
+    if (expected.number == 0 && words != WORDS)
+        expected = impossible;
+    scan = lend(&scan_room, words * sizeof *scan);
+    note("open, %zu words\n", words);
+    hold_prepared(OPEN, jazhuppe_open(lend_rule(), now.rule_len, now.fold, scan, words), expected);
+    hold_lent();
+    scanning = expected.number == 0;
+    if (scanning)
+        hold_value();
+    else if (!untouched(&scan_room))
+        different("a refused opening's scan value");
+}
+
+/* A call that the plain scan knows nothing of: a scan value of another length, or a piece over the limit. */
+static void try_odd_call(size_t length, size_t list)
+{
+    jazhuppe_answer expected = {JAZHUPPE_IMPOSSIBLE, 0, 0, 0};
+    uint32_t *ends = lend(&list_room, list * sizeof *ends);
+    const uint8_t *piece = lend(&text_room, length);
+
+    if (one_in(2)) {
+        note("feed of %zu and finish with a scan value one word short\n", length);
+        hold_answer(FEED, jazhuppe_feed(scan, WORDS - 1, piece, length, ends, list), expected);
+        hold_answer(FINISH, jazhuppe_finish(scan, WORDS - 1, ends, list), expected);
+    } else {
+        note("feed of %zu bytes\n", over);
+        expected = second_feed(&plain, too_much, over, ends, list);
+        hold_answer(FEED, jazhuppe_feed(scan, WORDS, too_much, over, ends, list), expected);
+    }
+    if (!untouched(&scan_room) || !untouched(&list_room))
+        different("what was lent to a refused call");
+}
+
+/* Whether it was accepted. */
+static bool try_scan_call(bool finish, const uint8_t *bytes, size_t length)
+{
+    static uint32_t expected_ends[SECOND_PLAN_MOST];
+    size_t list = list_length((finish ? 0 : length) + NINE);
+    uint32_t *ends = lend(&list_room, list * sizeof *ends);
+    const uint8_t *piece = lend_bytes(&text_room, bytes, length);
+    jazhuppe_answer expected = finish ? second_finish(&plain, expected_ends, list)
+                                      : second_feed(&plain, bytes, length, expected_ends, list);
+
+    note("%s of %zu with a list of %zu\n", finish ? "finish" : "feed", length, list);
+    hold_answer(finish ? FINISH : FEED,
+                finish ? jazhuppe_finish(scan, WORDS, ends, list)
+                       : jazhuppe_feed(scan, WORDS, piece, length, ends, list),
+                expected);
+    hold_list(finish ? FINISH : FEED, expected_ends, expected.count);
+    hold_lent();
+    if (expected.number != 0 && !untouched(&scan_room))
+        different("a refused call's scan value");
+    if (expected.number == 0)
+        hold_value();
+    held_seen += expected.number == 0 && scan[263] > 0;
+    ends_seen += expected.count;
+    return expected.number == 0;
+}
+
+/* Feeds the plan in random pieces until all are taken, with refused calls in between; then finishes it. */
+static void try_scan(void)
+{
+    size_t at = 0;
+    uint32_t longest = one_in(16) && now.plan_len <= 64 ? 1 : 1 + below(30) + (uint32_t)now.plan_len / 4;
+
+    try_open();
+    if (!scanning)
+        return;
+    while (at < now.plan_len) {
+        size_t length = one_in(12) ? 0 : 1 + below(longest);
+
+        length = length < now.plan_len - at ? length : now.plan_len - at;
+        if (try_scan_call(false, now.plan + at, length))
+            at += length;
+        if (one_in(20))
+            try_odd_call(length, length + NINE);
+    }
+    while (!try_scan_call(true, NULL, 0))
+        continue;
+    if (one_in(4)) {
+        try_scan_call(one_in(2), NULL, 0);
+        try_odd_call(3, 12);
+    }
+}
+
+/* ---- calls on a whole text */
+
+static void try_decode(void)
+{
+    static uint8_t expected_out[PLAN_MOST];
+    bool big = one_in(50);
+    size_t length = big ? over : now.plan_len, room = list_length(now.plan_len);
+    const uint8_t *raw = big ? too_much : lend_bytes(&text_room, now.plan, now.plan_len);
+    jazhuppe_answer expected = second_decode(big ? too_much : now.plan, length, expected_out, room);
+    uint8_t *out = lend(&list_room, room);
+
+    note("decode of %zu into %zu\n", length, room);
+    hold_answer(DECODE, jazhuppe_decode(raw, length, out, room), expected);
+    hold_lent();
+    if (!untouched_past(&list_room, expected.count))
+        different("bytes past those decoded, or around the buffer");
+    if (memcmp(out, expected_out, expected.count) != 0) {
+        print_bytes("given", out, expected.count);
+        different("decode");
+    }
+}
+
+static void try_search(void)
+{
+    static uint32_t expected_starts[PLAN_MOST];
+    bool big = one_in(50);
+    size_t length = big ? over : now.text_len, list = list_length(now.text_len);
+    const uint8_t *text = big ? too_much : lend_bytes(&text_room, now.text, now.text_len);
+    jazhuppe_answer expected =
+        second_search(now.rule, now.rule_len, now.fold, big ? too_much : now.text, length, expected_starts, list);
+    uint32_t *starts = lend(&list_room, list * sizeof *starts);
+
+    note("search of %zu with a list of %zu\n", length, list);
+    hold_answer(SEARCH, jazhuppe_search(lend_rule(), now.rule_len, now.fold, text, length, starts, list), expected);
+    hold_list(SEARCH, expected_starts, expected.count);
+    hold_lent();
+    starts_seen += expected.count;
+    windows_seen += expected.windows;
+}
+
+static void try_show(void)
+{
+    const uint8_t *text = lend_bytes(&text_room, now.text, now.text_len), *rule = lend_rule();
+
+    for (size_t start = 0; start <= now.text_len + 1; start++) {
+        jazhuppe_span given = jazhuppe_show(rule, now.rule_len, now.fold, text, now.text_len, start);
+        jazhuppe_span expected = second_show(now.rule, now.rule_len, now.fold, now.text, now.text_len, start);
+
+        counts[SHOW][0]++;
+        shown_seen += expected.from < expected.to;
+        if (given.from == expected.from && given.to == expected.to)
+            continue;
+        printf("given %zu to %zu, expected %zu to %zu\n", given.from, given.to, expected.from, expected.to);
+        note("show at %zu\n", start);
+        different("show");
+    }
+    hold_lent();
+}
+
+static void try_case(void)
+{
+    asked_len = 0;
+    asked[0] = '\0';
+    lent_in_front = one_in(2);
+    if (one_in(700)) {
+        make_hostile();
+    } else {
+        make_rule();
+        make_plan();
+    }
+    now.text_len = second_decoded(now.plan, now.plan_len, now.text);
+    decoded_seen += now.text_len < now.plan_len;
+    note("prepare\n");
+    hold_prepared(PREPARE, jazhuppe_prepare(lend_rule(), now.rule_len, now.fold),
+                  second_prepare(now.rule, now.rule_len, now.fold));
+    try_decode();
+    try_scan();
+    try_search();
+    if (one_in(4))
+        try_show();
+}
+
+static void print_counts(void)
+{
+    for (int call = 0; call < CALLS; call++) {
+        printf("ok %s: %lu finished", call_names[call], counts[call][0]);
+        for (int number = 1; number <= 12; number++)
+            if (counts[call][number] > 0)
+                printf(", %lu refused by %d", counts[call][number], number);
+        putchar('\n');
+    }
+    printf("plans with references %lu, calls that held bytes back %lu\n", decoded_seen, held_seen);
+    printf("ends %lu, starts %lu, shown %lu, windows %lu\n", ends_seen, starts_seen, shown_seen, windows_seen);
+}
+
+int main(int argc, char **argv)
+{
+    if (argc > 1)
+        seed = strtoull(argv[1], NULL, 10);
+    if (argc > 2)
+        cases = (unsigned)strtoul(argv[2], NULL, 10);
+    source = random_from(seed);
+    rule_room = lent_room(RULE_ROOM);
+    text_room = lent_room(PLAN_MOST);
+    scan_room = lent_room((WORDS + 1) * sizeof(uint64_t));
+    list_room = lent_room((PLAN_MOST + 2 * NINE) * sizeof(uint32_t));
+    too_much = untouchable_memory(over);
+    printf("differential: seed %llu, %u cases\n", seed, cases);
+    for (case_number = 0; case_number < cases; case_number++)
+        try_case();
+    print_counts();
+    printf("differential: %d ok, 0 failed\n", CALLS);
+    return EXIT_SUCCESS;
+}

@@ -1,0 +1,138 @@
+/* limits.c: the limit of 4,294,967,295 bytes, in memory that is mapped and, as far as it can be, never touched. */
+#define _DEFAULT_SOURCE
+#include <stdio.h>
+#include <string.h>
+#include <sys/mman.h>
+
+#include "jazhuppe.h"
+#include "testing.h"
+
+enum { WORDS = JAZHUPPE_SCAN_WORDS, NINE = JAZHUPPE_HELD_MOST, RAW = 261, DECODED = 262 };
+
+/* One byte over the limit, and as much as may be. */
+static const size_t over = (size_t)JAZHUPPE_TEXT_MOST + 1, most = JAZHUPPE_TEXT_MOST;
+
+static lent scan_room, list_room;
+
+static bool answers(jazhuppe_answer a, uint32_t number, uint32_t place)
+{
+    return a.number == number && a.place == place && a.count == 0 && a.windows == 0;
+}
+
+static uint64_t *open_scan(const char *rule)
+{
+    uint64_t *scan = lend(&scan_room, WORDS * sizeof *scan);
+
+    CHECK(jazhuppe_open((const uint8_t *)rule, strlen(rule), 0, scan, WORDS).number == 0);
+    lent_anew(&scan_room);
+    return scan;
+}
+
+/* The rule, then 10, then 9; no byte of the text is touched. */
+static void test_whole_text(void)
+{
+    const uint8_t *text = untouchable_memory(over), *rule = (const uint8_t *)"a?";
+    void *list = lend(&list_room, 9 * sizeof(uint32_t));
+    jazhuppe_span shown = jazhuppe_show(rule, 1, 0, text, over, 0);
+
+    CHECK(answers(jazhuppe_search(rule, 2, 0, text, over, list, 9), JAZHUPPE_ADMITS_EMPTY, 2));
+    CHECK(answers(jazhuppe_search(rule, 1, 0, text, over, list, 9), JAZHUPPE_TOO_MUCH, 0));
+    CHECK(answers(jazhuppe_search(rule, 1, 0, text, most, list, 9), JAZHUPPE_TOO_SHORT, 0));
+    CHECK(answers(jazhuppe_decode(text, over, list, 9), JAZHUPPE_TOO_MUCH, 0));
+    CHECK(answers(jazhuppe_decode(text, most, list, 9), JAZHUPPE_TOO_SHORT, 0));
+    CHECK(shown.from == over && shown.to == over);
+    CHECK(untouched(&list_room));
+    munmap((void *)text, over);
+}
+
+/* A list that is long enough does not help; nor is it touched. */
+static void test_long_lists(void)
+{
+    size_t bytes = over * sizeof(uint32_t);
+    void *text = untouchable_memory(over), *list = untouchable_memory(bytes);
+
+    CHECK(answers(jazhuppe_search((const uint8_t *)"a", 1, 0, text, over, list, over), JAZHUPPE_TOO_MUCH, 0));
+    CHECK(answers(jazhuppe_decode(text, over, list, over), JAZHUPPE_TOO_MUCH, 0));
+    munmap(text, over);
+    munmap(list, bytes);
+}
+
+/* One piece over the limit; and the needed length, piece + 9, is not cut to 32 bits. */
+static void test_piece(void)
+{
+    uint64_t *scan = open_scan("a");
+    const uint8_t *piece = untouchable_memory(over);
+    uint32_t *ends = lend(&list_room, NINE * sizeof *ends);
+
+    CHECK(answers(jazhuppe_feed(scan, WORDS, piece, over, ends, NINE), JAZHUPPE_TOO_MUCH, 0));
+    CHECK(answers(jazhuppe_feed(scan, WORDS, piece, most, ends, NINE - 1), JAZHUPPE_TOO_SHORT, 0));
+    CHECK(answers(jazhuppe_feed(scan, WORDS, piece, most, ends, NINE), JAZHUPPE_TOO_SHORT, 0));
+    CHECK(untouched(&scan_room) && untouched(&list_room));
+    munmap((void *)piece, over);
+}
+
+/* A scan that has taken nearly all it may. */
+static void test_last_bytes(void)
+{
+    uint64_t *scan = open_scan("a");
+    const uint8_t *piece = (const uint8_t *)"aaaaaa";
+    uint32_t *ends = lend(&list_room, (6 + NINE) * sizeof *ends);
+    jazhuppe_answer a;
+
+    scan[RAW] = scan[DECODED] = most - 5;
+    lent_anew(&scan_room);
+    CHECK(answers(jazhuppe_feed(scan, WORDS, piece, 6, ends, 6 + NINE), JAZHUPPE_TOO_MUCH, 0));
+    CHECK(untouched(&scan_room) && untouched(&list_room));
+    a = jazhuppe_feed(scan, WORDS, piece, 5, ends, 5 + NINE);
+    CHECK(a.number == 0 && a.count == 5 && ends[0] == most - 4 && ends[4] == most && scan[RAW] == most);
+    lent_anew(&scan_room);
+    CHECK(answers(jazhuppe_feed(scan, WORDS, piece, 1, ends, 1 + NINE), JAZHUPPE_TOO_MUCH, 0));
+    CHECK(untouched(&scan_room));
+    CHECK(answers(jazhuppe_feed(scan, WORDS, piece, 0, ends, NINE), 0, 0));
+    CHECK(answers(jazhuppe_finish(scan, WORDS, ends, NINE), 0, 0));
+}
+
+/* Held bytes count as taken, and the finish may let them through up to the limit. */
+static void test_last_held(void)
+{
+    uint64_t *scan = open_scan(".");
+    uint32_t *ends = lend(&list_room, (3 + NINE) * sizeof *ends);
+    jazhuppe_answer a;
+
+    scan[RAW] = scan[DECODED] = most - 3;
+    CHECK(answers(jazhuppe_feed(scan, WORDS, (const uint8_t *)"&am", 3, ends, 3 + NINE), 0, 0));
+    CHECK(answers(jazhuppe_feed(scan, WORDS, (const uint8_t *)"p", 1, ends, 1 + NINE), JAZHUPPE_TOO_MUCH, 0));
+    a = jazhuppe_finish(scan, WORDS, ends, NINE);
+    CHECK(a.number == 0 && a.count == 3 && ends[0] == most - 2 && ends[2] == most);
+}
+
+/* As much as may be, searched and scanned: a seat at the very end is found. */
+static void test_longest(void)
+{
+    size_t list = most + NINE;
+    uint8_t *text = lazy_memory(most);
+    uint32_t *places = lazy_memory(list * sizeof *places);
+    uint64_t *scan = open_scan("A[0-9]+");
+    jazhuppe_answer a;
+
+    memcpy(text + most - 3, "A12", 3);
+    a = jazhuppe_search((const uint8_t *)"A[0-9]+", 7, 0, text, most, places, most);
+    CHECK(a.number == 0 && a.count == 1 && places[0] == most - 3);
+    a = jazhuppe_feed(scan, WORDS, text, most, places, list);
+    CHECK(a.number == 0 && a.count == 2 && places[0] == most - 1 && places[1] == most);
+    munmap(text, most);
+    munmap(places, list * sizeof *places);
+}
+
+int main(void)
+{
+    scan_room = lent_room(WORDS * sizeof(uint64_t));
+    list_room = lent_room(1024);
+    run("10: a text over the limit, after the rule and before 9, untouched", test_whole_text);
+    run("10: with lists that are long enough", test_long_lists);
+    run("10: a piece over the limit; 9 just below it", test_piece);
+    run("10: the last bytes of a plan, one by one", test_last_bytes);
+    run("10: held bytes at the limit", test_last_held);
+    run("the longest text, searched and scanned", test_longest);
+    return finished("limits");
+}

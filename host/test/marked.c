@@ -1,0 +1,351 @@
+/* marked.c: the requirement's marked table, its lister example, and the header's constants, through the header. */
+#include <stdio.h>
+#include <string.h>
+
+#include "jazhuppe.h"
+#include "testing.h"
+
+enum { MOST = 16, NOT_MARKED = -1 };
+
+/* A list of places. */
+typedef struct {
+    size_t count;
+    uint32_t at[MOST];
+} places;
+
+typedef struct {
+    const char *name, *rule, *text;
+    uint32_t positions, shortest;
+    places ends, starts;
+    int windows;
+    places shown; /* for each start, the earliest end there */
+} marked;
+
+static const marked table[] = {
+    {"M1", "abc{1,3}de", "abcabcffdee", 8, 6, {1, {10}}, {1, {3}}, 2, {1, {10}}},
+    {"M2", "ab?c*de+f", "acccdfabdeeeef", 6, 4, {1, {14}}, {1, {6}}, NOT_MARKED, {1, {14}}},
+    {"M3", "abc?d?efg?h", "abefh", 8, 5, {1, {5}}, {1, {0}}, 1, {1, {5}}},
+    {"M4", "a+", "aaa", 1, 1, {3, {1, 2, 3}}, {3, {0, 1, 2}}, 3, {3, {1, 2, 3}}},
+    {"M5", "ab?", "ab", 2, 1, {2, {1, 2}}, {1, {0}}, 2, {1, {1}}},
+    {"M6", "a?b", "ab", 2, 1, {1, {2}}, {2, {0, 1}}, 2, {2, {2, 2}}},
+    {"M7", "{1,2}a", "xxa", 3, 2, {1, {3}}, {2, {0, 1}}, 2, {2, {3, 3}}},
+    {"M8", "a", "", 1, 1, {0, {0}}, {0, {0}}, 0, {0, {0}}},
+    {"lister", "Row A&B [0-9]+", "Row A&B 12;", 9, 9, {2, {9, 10}}, {1, {0}}, 1, {1, {9}}},
+};
+enum { MARKED = sizeof table / sizeof table[0] };
+
+static lent rule_room, text_room, scan_room, list_room;
+
+static bool same(const places *marked_places, const places *given)
+{
+    return marked_places->count == given->count &&
+           memcmp(marked_places->at, given->at, given->count * sizeof given->at[0]) == 0;
+}
+
+static const uint8_t *lend_rule(const char *rule)
+{
+    return lend_bytes(&rule_room, rule, strlen(rule));
+}
+
+static uint64_t *open_scan(const char *rule)
+{
+    uint64_t *scan = lend(&scan_room, JAZHUPPE_SCAN_WORDS * sizeof *scan);
+    jazhuppe_prepared p = jazhuppe_open(lend_rule(rule), strlen(rule), 0, scan, JAZHUPPE_SCAN_WORDS);
+
+    CHECK(p.number == 0 && p.place == 0);
+    CHECK(untouched(&rule_room));
+    return scan;
+}
+
+/* Adds what a call reported. */
+static void add(places *all, jazhuppe_answer a, const uint32_t *list)
+{
+    CHECK(a.number == 0 && a.place == 0 && a.windows == 0);
+    CHECK(untouched_past(&list_room, a.count * sizeof *list));
+    if (a.number != 0 || all->count + a.count > MOST)
+        return;
+    memcpy(all->at + all->count, list, a.count * sizeof *list);
+    all->count += a.count;
+}
+
+static void feed(uint64_t *scan, const char *piece, size_t length, places *ends)
+{
+    uint32_t *list = lend(&list_room, (length + JAZHUPPE_HELD_MOST) * sizeof *list);
+    const uint8_t *bytes = lend_bytes(&text_room, piece, length);
+
+    add(ends, jazhuppe_feed(scan, JAZHUPPE_SCAN_WORDS, bytes, length, list, length + JAZHUPPE_HELD_MOST), list);
+    CHECK(untouched(&text_room));
+}
+
+static void finish(uint64_t *scan, places *ends)
+{
+    uint32_t *list = lend(&list_room, JAZHUPPE_HELD_MOST * sizeof *list);
+
+    add(ends, jazhuppe_finish(scan, JAZHUPPE_SCAN_WORDS, list, JAZHUPPE_HELD_MOST), list);
+}
+
+/* The ends of a plan that is fed in pieces of `step` bytes after a first one of `first`. */
+static places scanned(const char *rule, const char *plan, size_t first, size_t step)
+{
+    places ends = {0, {0}};
+    size_t length = strlen(plan);
+    uint64_t *scan = open_scan(rule);
+
+    feed(scan, plan, first, &ends);
+    for (size_t at = first; at < length; at += step)
+        feed(scan, plan + at, length - at < step ? length - at : step, &ends);
+    finish(scan, &ends);
+    return ends;
+}
+
+/* Scans a plan whole, byte by byte, and cut at every place. */
+static void scan_every_way(const char *rule, const char *plan, const places *marked_ends)
+{
+    size_t length = strlen(plan);
+    places ends = scanned(rule, plan, 0, 1);
+
+    CHECK(same(marked_ends, &ends));
+    for (size_t first = 0; first <= length; first++) {
+        ends = scanned(rule, plan, first, length);
+        CHECK(same(marked_ends, &ends));
+    }
+}
+
+/* Decodes into a buffer as long as the plan: the text's length. */
+static size_t decoded(const char *plan, size_t length, uint8_t *text)
+{
+    uint8_t *out = lend(&list_room, length);
+    jazhuppe_answer a = jazhuppe_decode(lend_bytes(&text_room, plan, length), length, out, length);
+
+    CHECK(a.number == 0 && a.place == 0 && a.windows == 0 && a.count <= length);
+    CHECK(untouched_past(&list_room, a.count) && untouched(&text_room));
+    memcpy(text, out, a.count);
+    return a.count;
+}
+
+static void search_marked(const marked *m)
+{
+    size_t length = strlen(m->text);
+    places starts = {0, {0}};
+    uint32_t *list = lend(&list_room, length * sizeof *list);
+    const uint8_t *text = lend_bytes(&text_room, m->text, length), *rule = lend_rule(m->rule);
+    jazhuppe_answer a = jazhuppe_search(rule, strlen(m->rule), 0, text, length, list, length);
+
+    CHECK(m->windows == NOT_MARKED || a.windows == (uint32_t)m->windows);
+    a.windows = 0;
+    add(&starts, a, list);
+    CHECK(same(&m->starts, &starts));
+    CHECK(untouched(&rule_room) && untouched(&text_room));
+}
+
+/* At each start of the text, and past it. */
+static void show_marked(const marked *m)
+{
+    size_t length = strlen(m->text), shown = 0;
+    const uint8_t *text = lend_bytes(&text_room, m->text, length), *rule = lend_rule(m->rule);
+
+    for (size_t start = 0; start <= length + 1; start++) {
+        jazhuppe_span s = jazhuppe_show(rule, strlen(m->rule), 0, text, length, start);
+
+        if (shown < m->starts.count && start == m->starts.at[shown]) {
+            CHECK(s.from == start && s.to == m->shown.at[shown]);
+            shown++;
+        } else {
+            CHECK(s.from == length && s.to == length);
+        }
+    }
+    CHECK(shown == m->starts.count);
+}
+
+static void test_rows(void)
+{
+    for (size_t i = 0; i < MARKED; i++) {
+        const marked *m = &table[i];
+        jazhuppe_prepared p = jazhuppe_prepare(lend_rule(m->rule), strlen(m->rule), 0);
+        uint8_t text[64];
+
+        about("%s", m->name);
+        CHECK(p.number == 0 && p.place == 0 && p.positions == m->positions && p.shortest == m->shortest);
+        CHECK(decoded(m->text, strlen(m->text), text) == strlen(m->text));
+        scan_every_way(m->rule, m->text, &m->ends);
+        search_marked(m);
+        show_marked(m);
+    }
+}
+
+static void test_lister_plan(void)
+{
+    const char *plan = "Row A&amp;B 12;", *text = "Row A&B 12;";
+    uint8_t out[64];
+
+    CHECK(decoded(plan, strlen(plan), out) == strlen(text) && memcmp(out, text, strlen(text)) == 0);
+    scan_every_way("Row A&B [0-9]+", plan, &table[MARKED - 1].ends);
+}
+
+static void decodes(const char *name, const char *plan, const char *text)
+{
+    uint8_t out[64];
+
+    about("%s", name);
+    CHECK(decoded(plan, strlen(plan), out) == strlen(text) && memcmp(out, text, strlen(text)) == 0);
+}
+
+/* The decoded text occurs in the plan, however it is cut, and ends where it ends. */
+static void occurs(const char *rule, const char *plan, uint32_t end)
+{
+    places ends = {1, {end}};
+
+    about("%s in %s", rule, plan);
+    scan_every_way(rule, plan, &ends);
+}
+
+static void test_references(void)
+{
+    decodes("M9", "&amp;amp;", "&amp;");
+    decodes("M10", "&#xE9;", "\xC3\xA9");
+    decodes("M11", "&#0;", "&#0;");
+    decodes("M11", "&am", "&am");
+    occurs("&amp;", "&amp;amp;", 5);
+    occurs("\xC3\xA9", "&#xE9;", 2);
+    occurs("&#0;", "&#0;", 4);
+    occurs("&am", "&am", 3);
+}
+
+static void test_M12(void)
+{
+    uint64_t *scan = lend(&scan_room, JAZHUPPE_SCAN_WORDS * sizeof *scan);
+    uint32_t *list = lend(&list_room, sizeof *list);
+    const uint8_t *text = lend_bytes(&text_room, "a", 1), *rule = lend_rule("a?");
+    jazhuppe_prepared p = jazhuppe_prepare(rule, 2, 0), o = jazhuppe_open(rule, 2, 0, scan, JAZHUPPE_SCAN_WORDS);
+    jazhuppe_answer a = jazhuppe_search(rule, 2, 0, text, 1, list, 1);
+    jazhuppe_span s = jazhuppe_show(rule, 2, 0, text, 1, 0);
+
+    CHECK(p.number == JAZHUPPE_ADMITS_EMPTY && p.place == 2 && p.positions == 0 && p.shortest == 0);
+    CHECK(o.number == JAZHUPPE_ADMITS_EMPTY && o.place == 2 && o.positions == 0 && o.shortest == 0);
+    CHECK(a.number == JAZHUPPE_ADMITS_EMPTY && a.place == 2 && a.count == 0 && a.windows == 0);
+    CHECK(s.from == 1 && s.to == 1);
+    CHECK(untouched(&scan_room) && untouched(&list_room));
+}
+
+/* A scan of JAZHUPPE_SCAN_WORDS opens; one of another length does not. */
+static void test_scan_words(void)
+{
+    const uint8_t *rule = lend_rule("a");
+
+    for (size_t words = JAZHUPPE_SCAN_WORDS - 1; words <= JAZHUPPE_SCAN_WORDS + 1; words++) {
+        uint64_t *scan = lend(&scan_room, words * sizeof *scan);
+        jazhuppe_prepared p = jazhuppe_open(rule, 1, 0, scan, words);
+
+        CHECK(p.number == (words == JAZHUPPE_SCAN_WORDS ? 0 : JAZHUPPE_IMPOSSIBLE));
+        CHECK(p.number == 0 ? p.positions == 1 : untouched(&scan_room));
+    }
+}
+
+/* A held tail of JAZHUPPE_HELD_MOST bytes, let through by one more: a feed of one byte reports that many ends. */
+static void test_held_most(void)
+{
+    const char *tail = "&#1234567";
+    places none = {0, {0}};
+    uint64_t *scan = open_scan(".");
+    uint32_t *list;
+    jazhuppe_answer a;
+
+    feed(scan, tail, strlen(tail), &none);
+    CHECK(strlen(tail) == JAZHUPPE_HELD_MOST && none.count == 0 && scan[263] == JAZHUPPE_HELD_MOST);
+    list = lend(&list_room, JAZHUPPE_HELD_MOST * sizeof *list);
+    a = jazhuppe_feed(scan, JAZHUPPE_SCAN_WORDS, lend_bytes(&text_room, "8", 1), 1, list, JAZHUPPE_HELD_MOST);
+    CHECK(a.number == JAZHUPPE_TOO_SHORT && untouched(&list_room));
+    list = lend(&list_room, (1 + JAZHUPPE_HELD_MOST) * sizeof *list);
+    a = jazhuppe_feed(scan, JAZHUPPE_SCAN_WORDS, lend_bytes(&text_room, "8", 1), 1, list, 1 + JAZHUPPE_HELD_MOST);
+    CHECK(a.number == 0 && a.count == 1 + JAZHUPPE_HELD_MOST);
+    for (uint32_t i = 0; i < a.count; i++)
+        CHECK(list[i] == i + 1);
+}
+
+/* A finish's list, one too short and just long enough. */
+static void test_finish_list(void)
+{
+    uint64_t *scan = open_scan("a");
+    uint32_t *list = lend(&list_room, (JAZHUPPE_HELD_MOST - 1) * sizeof *list);
+
+    CHECK(jazhuppe_finish(scan, JAZHUPPE_SCAN_WORDS, list, JAZHUPPE_HELD_MOST - 1).number == JAZHUPPE_TOO_SHORT);
+    list = lend(&list_room, JAZHUPPE_HELD_MOST * sizeof *list);
+    CHECK(jazhuppe_finish(scan, JAZHUPPE_SCAN_WORDS, list, JAZHUPPE_HELD_MOST).number == 0);
+}
+
+/* A search's list and a decoder's buffer. */
+static void test_whole_lists(void)
+{
+    const uint8_t *rule = lend_rule("a"), *text = lend_bytes(&text_room, "aaaa", 4);
+    uint32_t *starts = lend(&list_room, 4 * sizeof *starts);
+    uint8_t *out;
+
+    CHECK(jazhuppe_search(rule, 1, 0, text, 4, starts, 4).count == 4);
+    starts = lend(&list_room, 3 * sizeof *starts);
+    CHECK(jazhuppe_search(rule, 1, 0, text, 4, starts, 3).number == JAZHUPPE_TOO_SHORT);
+    out = lend(&list_room, 4);
+    CHECK(jazhuppe_decode(text, 4, out, 4).count == 4);
+    out = lend(&list_room, 3);
+    CHECK(jazhuppe_decode(text, 4, out, 3).number == JAZHUPPE_TOO_SHORT);
+}
+
+static void test_rule_most(void)
+{
+    char rule[JAZHUPPE_RULE_MOST + 1];
+    jazhuppe_prepared p;
+
+    /* One position, spelt as long as may be. */
+    memset(rule, 'a', sizeof rule);
+    rule[0] = '[';
+    rule[JAZHUPPE_RULE_MOST - 1] = ']';
+    p = jazhuppe_prepare(lend_bytes(&rule_room, rule, JAZHUPPE_RULE_MOST), JAZHUPPE_RULE_MOST, 0);
+    CHECK(p.number == 0 && p.positions == 1 && p.shortest == 1);
+    p = jazhuppe_prepare(lend_bytes(&rule_room, rule, sizeof rule), sizeof rule, 0);
+    CHECK(p.number == JAZHUPPE_RULE_LONG && p.place == JAZHUPPE_RULE_MOST);
+}
+
+static void test_positions_most(void)
+{
+    jazhuppe_prepared p = jazhuppe_prepare(lend_rule("{1,63}"), 6, 0);
+
+    CHECK(p.number == 0 && p.positions == JAZHUPPE_POSITIONS_MOST && p.shortest == 1);
+    p = jazhuppe_prepare(lend_rule("{1,63}a"), 7, 0);
+    CHECK(p.number == JAZHUPPE_POSITIONS && p.place == 6);
+}
+
+static void test_empty_piece(void)
+{
+    places ends = {0, {0}};
+    uint64_t *scan = open_scan("a");
+
+    feed(scan, "", 0, &ends);
+    CHECK(ends.count == 0);
+}
+
+static void run_all(void)
+{
+    run("M1 to M8 and the lister's example: scan, search, show", test_rows);
+    run("the lister's plan, with its reference", test_lister_plan);
+    run("M9 to M11: references", test_references);
+    run("M12: the empty string is admitted", test_M12);
+    run("an empty piece reports no end", test_empty_piece);
+    run("JAZHUPPE_SCAN_WORDS", test_scan_words);
+    run("JAZHUPPE_HELD_MOST, a feed's list", test_held_most);
+    run("JAZHUPPE_HELD_MOST, a finish's list", test_finish_list);
+    run("a search's list and a decoder's buffer", test_whole_lists);
+    run("JAZHUPPE_RULE_MOST", test_rule_most);
+    run("JAZHUPPE_POSITIONS_MOST", test_positions_most);
+}
+
+int main(void)
+{
+    rule_room = lent_room(1024);
+    text_room = lent_room(1024);
+    scan_room = lent_room(4096);
+    list_room = lent_room(1024);
+    run_all();
+    puts("again, with a page that nobody may touch before each slice:");
+    lent_in_front = true;
+    run_all();
+    return finished("marked");
+}

@@ -1,0 +1,284 @@
+/* refusals.c: every refusal through every call that can give it, and what is lent then. limits.c has the rest of 10. */
+#include <stdio.h>
+#include <string.h>
+
+#include "jazhuppe.h"
+#include "testing.h"
+
+static lent rule_room, text_room, scan_room, list_room;
+
+typedef struct {
+    const char *rule;
+    uint32_t fold, number, place;
+} refused_rule;
+
+/* The requirement's rows 1 to 8, its edges, and how docs/DECISIONS.md reads its open corners. */
+static const refused_rule refused_rules[] = {
+    {"", 0, 1, 0},
+    {"[a", 0, 3, 0}, {"[", 0, 3, 0}, {"x[]", 0, 3, 1}, {"[^]", 0, 3, 0}, {"[]a]", 0, 3, 0}, {"[b-a]", 0, 3, 0},
+    {"[-a]", 0, 3, 0}, {"[a-]", 0, 3, 0}, {"[--a]", 0, 3, 0}, {"[^-a]", 0, 3, 0}, {"[a-b-c]", 0, 3, 0},
+    {"[\\a]", 0, 3, 0}, {"[a\\", 0, 3, 0}, {"[a\\]", 0, 3, 0}, {"x[^\x01-\xFF", 0, 3, 1}, {"ab[z-a]c", 1, 3, 2},
+    {"[a-Z]", 1, 3, 0},
+    {"{", 0, 4, 0}, {"a{1}", 0, 4, 1}, {"{1,", 0, 4, 0}, {"{1,}", 0, 4, 0}, {"{,1}", 0, 4, 0}, {"{0,0}", 0, 4, 0},
+    {"{2,1}", 0, 4, 0}, {"{99,98}", 0, 4, 0}, {"{001,2}", 0, 4, 0}, {"{1,002}", 0, 4, 0}, {"{1, 2}", 0, 4, 0},
+    {"{1;2}", 0, 4, 0}, {"ab{1,2", 0, 4, 2},
+    {"?", 0, 5, 0}, {"+a", 0, 5, 0}, {"*", 0, 5, 0}, {"a??", 0, 5, 2}, {"a+*", 0, 5, 2}, {"{1,2}?", 0, 5, 5},
+    {"{1,63}?", 0, 5, 6},
+    {"]", 0, 6, 0}, {"a}", 0, 6, 1}, {"\\", 0, 6, 0}, {"ab\\", 0, 6, 2}, {"\\a", 0, 6, 0}, {"a\\&", 0, 6, 1},
+    {"[a]]", 0, 6, 3},
+    {"{1,64}", 0, 7, 0}, {"{1,99}", 0, 7, 0}, {"{1,63}a", 0, 7, 6}, {"{1,99}?", 0, 7, 0}, {"{1,63}a??", 0, 7, 6},
+    {"a{63,63}", 0, 7, 1}, {"{1,63}\\.", 0, 7, 6}, {"{1,63}[a]", 0, 7, 6},
+    {"{1,63}[b-a]", 0, 3, 6}, {"{1,63}{2,1}", 0, 4, 6}, {"{1,63}]", 0, 6, 6},
+    {"a?", 0, 8, 2}, {"a*b?", 0, 8, 4}, {"{0,63}", 0, 8, 6}, {"{0,1}.*", 0, 8, 7},
+};
+
+/* Rules that pass, beside those. */
+static const char *const accepted_rules[] = {
+    "^", "-", ",", "1", "&amp;", "[^^]", "[a^]", "[\\^a]", "[\\--a]", "[+-\\-]", "[.?+*{}[]", "[\\]]", "{01,02}",
+    "{1,63}", "\\.\\[\\]\\{\\}\\?\\+\\*\\\\\\^\\-", "a?b", "{0,1}a", "\n",
+};
+
+static jazhuppe_answer refusal(uint32_t number, uint32_t place)
+{
+    jazhuppe_answer a = {number, place, 0, 0};
+
+    return a;
+}
+
+static bool same_answer(jazhuppe_answer a, jazhuppe_answer b)
+{
+    return a.number == b.number && a.place == b.place && a.count == b.count && a.windows == b.windows;
+}
+
+static bool same_prepared(jazhuppe_prepared p, uint32_t number, uint32_t place)
+{
+    return p.number == number && p.place == place && p.positions == 0 && p.shortest == 0;
+}
+
+/* Through prepare, open, search and show; open and search are lent too little besides, which comes later. */
+static void refuses(const uint8_t *bytes, size_t length, uint32_t fold, uint32_t number, uint32_t place)
+{
+    const uint8_t *rule = lend_bytes(&rule_room, bytes, length), *text = lend_bytes(&text_room, "abc", 3);
+    uint64_t *scan = lend(&scan_room, JAZHUPPE_SCAN_WORDS * sizeof *scan);
+    uint32_t *starts = lend(&list_room, 3 * sizeof *starts);
+    jazhuppe_span shown = jazhuppe_show(rule, length, fold, text, 3, 0);
+
+    CHECK(same_prepared(jazhuppe_prepare(rule, length, fold), number, place));
+    CHECK(same_prepared(jazhuppe_open(rule, length, fold, scan, JAZHUPPE_SCAN_WORDS), number, place));
+    CHECK(same_prepared(jazhuppe_open(rule, length, fold, scan, JAZHUPPE_SCAN_WORDS - 1), number, place));
+    CHECK(same_answer(jazhuppe_search(rule, length, fold, text, 3, starts, 3), refusal(number, place)));
+    CHECK(same_answer(jazhuppe_search(rule, length, fold, text, 3, starts, 2), refusal(number, place)));
+    CHECK(shown.from == 3 && shown.to == 3);
+    CHECK(untouched(&rule_room) && untouched(&text_room) && untouched(&scan_room) && untouched(&list_room));
+}
+
+static void test_rules(void)
+{
+    for (size_t i = 0; i < sizeof refused_rules / sizeof refused_rules[0]; i++) {
+        const refused_rule *r = &refused_rules[i];
+
+        about("rule %s", r->rule);
+        refuses((const uint8_t *)r->rule, strlen(r->rule), r->fold, r->number, r->place);
+    }
+}
+
+/* 2 goes before every fault inside the rule. */
+static void test_long_rules(void)
+{
+    uint8_t rule[512];
+
+    memset(rule, '?', sizeof rule);
+    refuses(rule, 256, 0, JAZHUPPE_RULE_LONG, 255);
+    refuses(rule, sizeof rule, 0, JAZHUPPE_RULE_LONG, 255);
+    refuses(rule, 255, 0, JAZHUPPE_MARK, 0);
+    memset(rule, 'a', sizeof rule);
+    refuses(rule, 256, 1, JAZHUPPE_RULE_LONG, 255);
+    refuses(rule, 255, 1, JAZHUPPE_POSITIONS, 63);
+}
+
+/* [^..] with every byte: left with none. And without the letters' small case, where the fold flag alone decides. */
+static void test_classes_left_empty(void)
+{
+    uint8_t all[] = {'[', '^', 0, '-', 255, ']'};
+    uint8_t large[] = {'[', '^', 0, '-', '`', '{', '-', 255, ']'};
+
+    refuses(all, sizeof all, 0, JAZHUPPE_CLASS, 0);
+    refuses(large, sizeof large, 1, JAZHUPPE_CLASS, 0);
+    refuses(large, sizeof large, 256, JAZHUPPE_CLASS, 0);
+    refuses(large, sizeof large, 0x80000000u, JAZHUPPE_CLASS, 0);
+    CHECK(jazhuppe_prepare(lend_bytes(&rule_room, large, sizeof large), sizeof large, 0).number == 0);
+}
+
+static void test_accepted_rules(void)
+{
+    for (size_t i = 0; i < sizeof accepted_rules / sizeof accepted_rules[0]; i++) {
+        size_t length = strlen(accepted_rules[i]);
+        const uint8_t *rule = lend_bytes(&rule_room, accepted_rules[i], length);
+        jazhuppe_prepared p = jazhuppe_prepare(rule, length, 0);
+
+        about("rule %s", accepted_rules[i]);
+        CHECK(p.number == 0 && p.place == 0 && p.positions >= p.shortest && p.shortest >= 1);
+    }
+}
+
+/* 9: a search's list and a decoder's buffer, of every length that is too short. */
+static void test_short_whole(void)
+{
+    const uint8_t *text = lend_bytes(&text_room, "a&lt;aaa", 8), *rule = lend_bytes(&rule_room, "a", 1);
+
+    for (size_t length = 0; length < 8; length++) {
+        uint32_t *starts = lend(&list_room, length * sizeof *starts);
+        jazhuppe_answer a = jazhuppe_search(rule, 1, 0, text, 8, starts, length);
+        uint8_t *out;
+
+        CHECK(same_answer(a, refusal(JAZHUPPE_TOO_SHORT, 0)) && untouched(&list_room));
+        out = lend(&list_room, length);
+        CHECK(same_answer(jazhuppe_decode(text, 8, out, length), refusal(JAZHUPPE_TOO_SHORT, 0)));
+        CHECK(untouched(&list_room));
+    }
+    CHECK(untouched(&text_room) && untouched(&rule_room));
+}
+
+static uint64_t *open_scan(const char *bytes)
+{
+    uint64_t *scan = lend(&scan_room, JAZHUPPE_SCAN_WORDS * sizeof *scan);
+    const uint8_t *rule = lend_bytes(&rule_room, bytes, strlen(bytes));
+
+    CHECK(jazhuppe_open(rule, strlen(bytes), 0, scan, JAZHUPPE_SCAN_WORDS).number == 0);
+    lent_anew(&scan_room);
+    return scan;
+}
+
+/* A feed of so many bytes and a finish, with these lengths of lists, are both refused by this number. */
+static void both_refuse(size_t scan_len, size_t piece_len, size_t feed_list, size_t finish_list, uint32_t number)
+{
+    uint64_t *scan = (uint64_t *)(void *)scan_room.slice;
+    const uint8_t *piece = lend(&text_room, piece_len);
+    uint32_t *ends = lend(&list_room, feed_list * sizeof *ends);
+
+    CHECK(same_answer(jazhuppe_feed(scan, scan_len, piece, piece_len, ends, feed_list), refusal(number, 0)));
+    CHECK(untouched(&scan_room) && untouched(&text_room) && untouched(&list_room));
+    ends = lend(&list_room, finish_list * sizeof *ends);
+    CHECK(same_answer(jazhuppe_finish(scan, scan_len, ends, finish_list), refusal(number, 0)));
+    CHECK(untouched(&scan_room) && untouched(&list_room));
+}
+
+/* 9: a scan call's list, of every length that is too short; and the scan goes on as if nothing had been asked. */
+static void test_short_scan(void)
+{
+    uint64_t *scan = open_scan("a");
+    uint32_t *ends;
+    jazhuppe_answer a;
+
+    for (size_t piece = 0; piece < 20; piece++)
+        for (size_t list = 0; list < piece + JAZHUPPE_HELD_MOST; list++)
+            both_refuse(JAZHUPPE_SCAN_WORDS, piece, list, list % JAZHUPPE_HELD_MOST, JAZHUPPE_TOO_SHORT);
+    ends = lend(&list_room, 10 * sizeof *ends);
+    a = jazhuppe_feed(scan, JAZHUPPE_SCAN_WORDS, lend_bytes(&text_room, "a", 1), 1, ends, 10);
+    CHECK(a.number == 0 && a.count == 1 && ends[0] == 1 && untouched_past(&list_room, sizeof *ends));
+}
+
+/* 12: after a finish every call is refused, with any piece and list, and a new opening takes the value up again. */
+static void test_finished(void)
+{
+    uint64_t *scan = open_scan("a");
+    uint32_t *ends = lend(&list_room, JAZHUPPE_HELD_MOST * sizeof *ends);
+
+    CHECK(jazhuppe_finish(scan, JAZHUPPE_SCAN_WORDS, ends, JAZHUPPE_HELD_MOST).number == 0);
+    lent_anew(&scan_room);
+    both_refuse(JAZHUPPE_SCAN_WORDS, 3, 12, 9, JAZHUPPE_FINISHED);
+    both_refuse(JAZHUPPE_SCAN_WORDS, 0, 9, 9, JAZHUPPE_FINISHED);
+    both_refuse(JAZHUPPE_SCAN_WORDS, 3, 0, 0, JAZHUPPE_FINISHED);
+    CHECK(jazhuppe_open(rule_room.slice, 1, 0, scan, JAZHUPPE_SCAN_WORDS).number == 0);
+    CHECK(jazhuppe_finish(scan, JAZHUPPE_SCAN_WORDS, ends, JAZHUPPE_HELD_MOST).number == 0);
+}
+
+/* 11, 12, 10, 9: each goes before the later ones. */
+static void test_order_of_scan_calls(void)
+{
+    uint64_t *scan = open_scan("a");
+
+    scan[261] = JAZHUPPE_TEXT_MOST;
+    scan[260] = 1;
+    scan[258] = 64;
+    lent_anew(&scan_room);
+    both_refuse(JAZHUPPE_SCAN_WORDS, 1, 0, 0, JAZHUPPE_IMPOSSIBLE);
+    scan[258] = 63;
+    lent_anew(&scan_room);
+    both_refuse(JAZHUPPE_SCAN_WORDS - 1, 1, 0, 0, JAZHUPPE_IMPOSSIBLE);
+    both_refuse(JAZHUPPE_SCAN_WORDS, 1, 0, 0, JAZHUPPE_FINISHED);
+    scan[260] = 0;
+    lent_anew(&scan_room);
+    CHECK(same_answer(jazhuppe_feed(scan, JAZHUPPE_SCAN_WORDS, lend(&text_room, 1), 1, lend(&list_room, 0), 0),
+                      refusal(JAZHUPPE_TOO_MUCH, 0)));
+    /* An empty piece is not over the limit, and a finish never is. */
+    both_refuse(JAZHUPPE_SCAN_WORDS, 0, 8, 8, JAZHUPPE_TOO_SHORT);
+}
+
+/* NULL with length 0, in every place. */
+static void test_null(void)
+{
+    uint64_t *scan = open_scan("a");
+    uint32_t *ends = lend(&list_room, JAZHUPPE_HELD_MOST * sizeof *ends);
+    const uint8_t *rule = rule_room.slice, *text = lend_bytes(&text_room, "a", 1);
+    jazhuppe_span shown = jazhuppe_show(rule, 1, 0, NULL, 0, 0);
+
+    CHECK(same_prepared(jazhuppe_prepare(NULL, 0, 0), JAZHUPPE_RULE_EMPTY, 0));
+    CHECK(same_prepared(jazhuppe_open(NULL, 0, 0, NULL, 0), JAZHUPPE_RULE_EMPTY, 0));
+    CHECK(same_prepared(jazhuppe_open(rule, 1, 0, NULL, 0), JAZHUPPE_IMPOSSIBLE, 0));
+    CHECK(same_answer(jazhuppe_feed(NULL, 0, NULL, 0, NULL, 0), refusal(JAZHUPPE_IMPOSSIBLE, 0)));
+    CHECK(same_answer(jazhuppe_finish(NULL, 0, NULL, 0), refusal(JAZHUPPE_IMPOSSIBLE, 0)));
+    CHECK(same_answer(jazhuppe_feed(scan, JAZHUPPE_SCAN_WORDS, NULL, 0, NULL, 0), refusal(JAZHUPPE_TOO_SHORT, 0)));
+    CHECK(same_answer(jazhuppe_feed(scan, JAZHUPPE_SCAN_WORDS, text, 1, NULL, 0), refusal(JAZHUPPE_TOO_SHORT, 0)));
+    CHECK(same_answer(jazhuppe_feed(scan, JAZHUPPE_SCAN_WORDS, NULL, 0, ends, 9), refusal(0, 0)));
+    CHECK(same_answer(jazhuppe_finish(scan, JAZHUPPE_SCAN_WORDS, NULL, 0), refusal(JAZHUPPE_TOO_SHORT, 0)));
+    CHECK(same_answer(jazhuppe_decode(NULL, 0, NULL, 0), refusal(0, 0)));
+    CHECK(same_answer(jazhuppe_decode(text, 1, NULL, 0), refusal(JAZHUPPE_TOO_SHORT, 0)));
+    CHECK(same_answer(jazhuppe_search(NULL, 0, 0, NULL, 0, NULL, 0), refusal(JAZHUPPE_RULE_EMPTY, 0)));
+    CHECK(same_answer(jazhuppe_search(rule, 1, 0, NULL, 0, NULL, 0), refusal(0, 0)));
+    CHECK(same_answer(jazhuppe_search(rule, 1, 0, text, 1, NULL, 0), refusal(JAZHUPPE_TOO_SHORT, 0)));
+    CHECK(shown.from == 0 && shown.to == 0);
+    shown = jazhuppe_show(NULL, 0, 0, NULL, 0, 7);
+    CHECK(shown.from == 0 && shown.to == 0);
+    CHECK(untouched(&scan_room) && untouched(&list_room));
+}
+
+static void test_show(void)
+{
+    const uint8_t *rule = lend_bytes(&rule_room, "a", 1), *text = lend_bytes(&text_room, "ba", 2);
+    static const size_t starts[] = {0, 2, 3, (size_t)1 << 32, SIZE_MAX};
+    jazhuppe_span shown = jazhuppe_show(rule, 1, 0, text, 2, 1);
+
+    CHECK(shown.from == 1 && shown.to == 2);
+    for (size_t i = 0; i < sizeof starts / sizeof starts[0]; i++) {
+        shown = jazhuppe_show(rule, 1, 0, text, 2, starts[i]);
+        CHECK(shown.from == 2 && shown.to == 2);
+    }
+}
+
+static void run_all(void)
+{
+    run("1, 3 to 8 of a rule: number and place, by every call that takes one", test_rules);
+    run("2 of a rule, before any other fault", test_long_rules);
+    run("3: a class left with no byte, and the fold flag", test_classes_left_empty);
+    run("rules that pass", test_accepted_rules);
+    run("9: a search's list, a decoder's buffer", test_short_whole);
+    run("9: a feed's and a finish's list", test_short_scan);
+    run("12: a finished scan", test_finished);
+    run("a scan call checks 11, 12, 10, 9", test_order_of_scan_calls);
+    run("NULL with length 0", test_null);
+    run("show gives no number", test_show);
+}
+
+int main(void)
+{
+    rule_room = lent_room(1024);
+    text_room = lent_room(1024);
+    scan_room = lent_room(4096);
+    list_room = lent_room(1024);
+    run_all();
+    puts("again, with a page that nobody may touch before each slice:");
+    lent_in_front = true;
+    run_all();
+    return finished("refusals");
+}

@@ -1,0 +1,309 @@
+/* scan_values.c: scan values that are impossible, each by one field; and possible ones made by hand, which step
+ * exactly by the requirement's formula, whatever their masks and state. */
+#include <stdio.h>
+#include <string.h>
+
+#include "jazhuppe.h"
+#include "random.h"
+#include "second.h"
+#include "testing.h"
+
+/* The fields. */
+enum { REPEATS = 256, OPTIONAL, POSITIONS, STATE, FINISHED, RAW, DECODED, HELD, HELD_BYTES };
+enum { WORDS = JAZHUPPE_SCAN_WORDS, NINE = JAZHUPPE_HELD_MOST };
+
+static lent scan_room, text_room, list_room;
+
+static bool answers(jazhuppe_answer a, uint32_t number, uint32_t count)
+{
+    return a.number == number && a.place == 0 && a.count == count && a.windows == 0;
+}
+
+/* Lends the value and asks for a feed of one byte and for a finish, both of which leave everything as it is. */
+static void both_refuse(const uint64_t *value, size_t words, uint32_t number)
+{
+    uint64_t *scan = lend_bytes(&scan_room, value, words * sizeof *scan);
+    const uint8_t *piece = lend_bytes(&text_room, "a", 1);
+    uint32_t *ends = lend(&list_room, (1 + NINE) * sizeof *ends);
+
+    CHECK(answers(jazhuppe_feed(scan, words, piece, 1, ends, 1 + NINE), number, 0));
+    CHECK(answers(jazhuppe_finish(scan, words, ends, 1 + NINE), number, 0));
+    CHECK(untouched(&scan_room) && untouched(&text_room) && untouched(&list_room));
+}
+
+/* Lends the value and finishes it: it is possible. */
+static void finishes(const uint64_t *value)
+{
+    uint64_t *scan = lend_bytes(&scan_room, value, WORDS * sizeof *scan);
+
+    CHECK(jazhuppe_finish(scan, WORDS, lend(&list_room, NINE * sizeof(uint32_t)), NINE).number == 0);
+}
+
+/* An opened scan that has taken 100 bytes and holds none back. */
+static void usual(uint64_t *value)
+{
+    jazhuppe_prepared p = jazhuppe_open((const uint8_t *)"a", 1, 0, value, WORDS);
+
+    CHECK(p.number == 0);
+    value[RAW] = value[DECODED] = 100;
+}
+
+static void hold(uint64_t *value, const char *tail)
+{
+    value[HELD] = strlen(tail);
+    value[DECODED] = value[RAW] - value[HELD];
+    for (size_t i = 0; i < value[HELD] && i < NINE; i++)
+        value[HELD_BYTES + i] = (uint8_t)tail[i];
+}
+
+/* Sets one field of a possible value to a number that it cannot hold. */
+static void field_refused(size_t field, uint64_t number)
+{
+    uint64_t value[WORDS];
+
+    about("field %zu, number %llu", field, (unsigned long long)number);
+    usual(value);
+    value[field] = number;
+    both_refuse(value, WORDS, JAZHUPPE_IMPOSSIBLE);
+}
+
+static void test_fields(void)
+{
+    static const uint64_t over[] = {(uint64_t)1 << 32, (uint64_t)1 << 63, UINT64_MAX};
+
+    field_refused(POSITIONS, 0);
+    field_refused(POSITIONS, 64);
+    field_refused(FINISHED, 2);
+    field_refused(HELD, 10);
+    field_refused(DECODED, 101);
+    field_refused(RAW, 99);
+    for (size_t i = 0; i < sizeof over / sizeof over[0]; i++) {
+        /* Cut to 32 bits, most of these would pass. */
+        field_refused(POSITIONS, over[i] | 1);
+        field_refused(FINISHED, over[i]);
+        field_refused(RAW, over[i] | 100);
+        field_refused(DECODED, over[i] | 100);
+        field_refused(HELD, over[i]);
+    }
+    for (size_t j = 0; j < NINE; j++) {
+        field_refused(HELD_BYTES + j, 256);
+        field_refused(HELD_BYTES + j, UINT64_MAX);
+    }
+}
+
+/* decoded + held is over the count taken, or would wrap round to less. */
+static void test_counts(void)
+{
+    uint64_t value[WORDS];
+
+    usual(value);
+    hold(value, "&am");
+    finishes(value);
+    value[DECODED]++;
+    both_refuse(value, WORDS, JAZHUPPE_IMPOSSIBLE);
+    value[DECODED] = UINT64_MAX - 2;
+    both_refuse(value, WORDS, JAZHUPPE_IMPOSSIBLE);
+    value[RAW] = value[DECODED] = JAZHUPPE_TEXT_MOST;
+    both_refuse(value, WORDS, JAZHUPPE_IMPOSSIBLE);
+}
+
+static void test_held_bytes(void)
+{
+    static const char *const tails[] = {
+        "&", "&a", "&am", "&amp", "&ap", "&apo", "&apos", "&l", "&lt", "&g", "&gt", "&q", "&qu", "&quo", "&quot",
+        "&#", "&#0", "&#1234567", "&#x", "&#xD800", "&#xaBcDeF",
+    };
+    static const char *const others[] = {
+        "a", "a&", "&amp;", "&A", "&ax", "&&", "&#x1;", "&#;", "&#X", "&#12a", "&#xG", "&#12345678", "&lt;", "&b", ";",
+        "&x",
+    };
+    uint64_t value[WORDS];
+
+    for (size_t i = 0; i < sizeof tails / sizeof tails[0]; i++) {
+        about("held %s", tails[i]);
+        usual(value);
+        hold(value, tails[i]);
+        finishes(value);
+        value[FINISHED] = 1;
+        both_refuse(value, WORDS, JAZHUPPE_FINISHED);
+    }
+    for (size_t i = 0; i < sizeof others / sizeof others[0]; i++) {
+        about("held %s", others[i]);
+        usual(value);
+        hold(value, others[i]);
+        both_refuse(value, WORDS, JAZHUPPE_IMPOSSIBLE);
+    }
+    about("a held 0");
+    usual(value);
+    value[HELD] = 1;
+    value[DECODED] = 99;
+    both_refuse(value, WORDS, JAZHUPPE_IMPOSSIBLE);
+}
+
+static void test_lengths(void)
+{
+    uint64_t value[2 * WORDS];
+
+    memset(value, 0, sizeof value);
+    usual(value);
+    for (size_t words = 0; words <= 2 * WORDS; words++)
+        if (words != WORDS)
+            both_refuse(value, words, JAZHUPPE_IMPOSSIBLE);
+}
+
+static void test_all_alike(void)
+{
+    uint64_t value[WORDS];
+
+    memset(value, 0, sizeof value);
+    both_refuse(value, WORDS, JAZHUPPE_IMPOSSIBLE);
+    memset(value, 0xFF, sizeof value);
+    both_refuse(value, WORDS, JAZHUPPE_IMPOSSIBLE);
+}
+
+/* ---- by hand */
+
+/* "Then Df = D or F, and D gains A and ((not (Df - I)) xor Df)." */
+static uint64_t second_half(uint64_t d, uint64_t a)
+{
+    uint64_t i = (a >> 1) & ~a, f = a & ~(a >> 1), df = d | f;
+
+    return d | (a & (~(df - i) ^ df));
+}
+
+/* "((D shifted up by one, bit 63 dropping out) and B[c]) or (D and S[c]) or 1" */
+static uint64_t step(const uint64_t *value, uint64_t d, uint8_t c)
+{
+    uint64_t b = value[c], s = b & value[REPEATS];
+
+    return second_half(((d << 1) & b) | (d & s) | 1, value[OPTIONAL]);
+}
+
+/* What a call makes of a possible value: the value after it, and the ends. */
+static size_t stepped(uint64_t *value, const uint8_t *piece, size_t length, bool finish, uint32_t *ends)
+{
+    uint8_t raw[128], text[128];
+    size_t taken = value[HELD], held, decoded, count = 0;
+
+    for (size_t i = 0; i < taken; i++)
+        raw[i] = (uint8_t)value[HELD_BYTES + i];
+    memcpy(raw + taken, piece, length);
+    taken += length;
+    held = finish ? 0 : second_held(raw, taken);
+    decoded = second_decoded(raw, taken - held, text);
+    for (size_t i = 0; i < decoded; i++) {
+        value[STATE] = step(value, value[STATE], text[i]);
+        if ((value[STATE] >> value[POSITIONS] & 1) != 0)
+            ends[count++] = (uint32_t)(value[DECODED] + i + 1);
+    }
+    value[FINISHED] = finish;
+    value[RAW] += length;
+    value[DECODED] += decoded;
+    value[HELD] = held;
+    for (size_t i = 0; i < NINE; i++)
+        value[HELD_BYTES + i] = i < held ? raw[taken - held + i] : 0;
+    return count;
+}
+
+/* Any bits; few, many, or all alike. */
+static uint64_t random_mask(random_source *r)
+{
+    uint64_t w = random_word(r);
+
+    switch (random_below(r, 6)) {
+    case 0: return w & random_word(r) & random_word(r);
+    case 1: return w | random_word(r) | random_word(r);
+    case 2: return w << random_below(r, 64);
+    case 3: return 0;
+    case 4: return UINT64_MAX;
+    default: return w;
+    }
+}
+
+static void random_value(random_source *r, uint64_t *value)
+{
+    static const char *const tails[] = {"", "", "&", "&am", "&#", "&#1234567", "&#x1F60", "&quot"};
+
+    memset(value, 0, WORDS * sizeof *value);
+    for (size_t c = 0; c < 256; c++)
+        value[c] = random_mask(r);
+    value[REPEATS] = random_mask(r);
+    value[OPTIONAL] = random_mask(r);
+    value[POSITIONS] = 1 + random_below(r, 63);
+    value[STATE] = random_mask(r);
+    value[RAW] = 20 + random_below(r, random_below(r, 2) == 0 ? 100 : 4000000000u);
+    hold(value, tails[random_below(r, 8)]);
+    value[DECODED] -= random_below(r, (uint32_t)value[DECODED]);
+    /* Past the held bytes any byte may stand. */
+    for (size_t i = value[HELD]; i < NINE; i++)
+        value[HELD_BYTES + i] = random_below(r, 256);
+}
+
+static size_t random_piece(random_source *r, uint8_t *piece)
+{
+    static const char *const parts[] = {"&amp;", "&", "&#", "38;", "amp;", "x26;", "&#x1F600;", ";", "&#12345678"};
+    size_t length = 0, most = random_below(r, 80);
+
+    while (length < most) {
+        const char *part = parts[random_below(r, 9)];
+
+        if (random_below(r, 3) == 0 && length + strlen(part) <= most) {
+            memcpy(piece + length, part, strlen(part));
+            length += strlen(part);
+        } else {
+            piece[length++] = (uint8_t)random_below(r, 256);
+        }
+    }
+    return length;
+}
+
+/* Some feeds and a finish, each held against the formula. */
+static void by_hand(random_source *r)
+{
+    uint64_t expected[WORDS], *scan;
+    uint32_t ends[128];
+
+    random_value(r, expected);
+    scan = lend_bytes(&scan_room, expected, sizeof expected);
+    for (int call = 0; call < 4; call++) {
+        bool finish = call == 3;
+        uint8_t piece[80];
+        size_t length = finish ? 0 : random_piece(r, piece), list = length + NINE;
+        size_t count = stepped(expected, piece, length, finish, ends);
+        uint32_t *given = lend(&list_room, list * sizeof *given);
+        const uint8_t *bytes = lend_bytes(&text_room, piece, length);
+        jazhuppe_answer a = finish ? jazhuppe_finish(scan, WORDS, given, list)
+                                   : jazhuppe_feed(scan, WORDS, bytes, length, given, list);
+
+        CHECK(answers(a, 0, (uint32_t)count));
+        CHECK(memcmp(given, ends, count * sizeof *ends) == 0);
+        CHECK(untouched_past(&list_room, count * sizeof *ends) && untouched(&text_room));
+        CHECK(memcmp(scan, expected, sizeof expected) == 0);
+        CHECK(untouched_past(&scan_room, sizeof expected));
+    }
+}
+
+static void test_by_hand(void)
+{
+    random_source r = random_from(1);
+
+    for (int i = 0; i < 5000; i++) {
+        about("value %d made by hand", i);
+        lent_in_front = i % 2 == 1;
+        by_hand(&r);
+    }
+}
+
+int main(void)
+{
+    scan_room = lent_room(2 * WORDS * sizeof(uint64_t));
+    text_room = lent_room(256);
+    list_room = lent_room(1024);
+    run("11: each field with a number that it cannot hold", test_fields);
+    run("11: decoded and held counts over the count taken", test_counts);
+    run("11: held bytes that are not such a tail; 12 before them where they are", test_held_bytes);
+    run("11: every other length", test_lengths);
+    run("11: all zeros, all ones", test_all_alike);
+    run("5,000 values made by hand step by the formula", test_by_hand);
+    return finished("scan_values");
+}

@@ -1,0 +1,592 @@
+/* second.c: see second.h. */
+#include "second.h"
+
+#include <stdlib.h>
+#include <string.h>
+
+/* ---- rule text */
+
+static bool among(uint8_t c, const char *bytes)
+{
+    return c != 0 && strchr(bytes, c) != NULL;
+}
+
+static bool is_mark(uint8_t c)
+{
+    return among(c, ".[]{}?+*\\");
+}
+
+static uint8_t other_case(uint8_t c)
+{
+    if (c >= 'a' && c <= 'z')
+        return (uint8_t)(c - 'a' + 'A');
+    if (c >= 'A' && c <= 'Z')
+        return (uint8_t)(c - 'A' + 'a');
+    return c;
+}
+
+static void widen(bool *admits)
+{
+    bool before[256];
+
+    memcpy(before, admits, sizeof before);
+    for (int c = 0; c < 256; c++)
+        if (before[c])
+            admits[other_case((uint8_t)c)] = true;
+}
+
+typedef struct {
+    const uint8_t *bytes;
+    size_t length, at;
+    bool fold;
+} reader;
+
+static bool more(const reader *r)
+{
+    return r->at < r->length;
+}
+
+static bool next_is(const reader *r, uint8_t c)
+{
+    return more(r) && r->bytes[r->at] == c;
+}
+
+/* After a \: the byte that it gives. */
+static bool read_escaped(reader *r, uint8_t *c)
+{
+    if (!more(r) || !(is_mark(r->bytes[r->at]) || among(r->bytes[r->at], "^-")))
+        return false;
+    *c = r->bytes[r->at++];
+    return true;
+}
+
+/* A single byte of a class, or an end of a range. */
+static bool read_class_byte(reader *r, uint8_t *c)
+{
+    if (!more(r) || next_is(r, '-') || next_is(r, ']'))
+        return false;
+    *c = r->bytes[r->at++];
+    return *c != '\\' || read_escaped(r, c);
+}
+
+static bool read_class_item(reader *r, bool *admits)
+{
+    uint8_t lo, hi;
+
+    if (!read_class_byte(r, &lo))
+        return false;
+    hi = lo;
+    if (next_is(r, '-')) {
+        r->at++;
+        if (!read_class_byte(r, &hi) || hi < lo)
+            return false;
+    }
+    for (int c = lo; c <= hi; c++)
+        admits[c] = true;
+    return true;
+}
+
+/* After the [. */
+static bool read_class(reader *r, bool *admits)
+{
+    bool turned = next_is(r, '^'), some = false;
+
+    if (turned)
+        r->at++;
+    do {
+        if (!read_class_item(r, admits))
+            return false;
+    } while (!next_is(r, ']'));
+    r->at++;
+    if (r->fold)
+        widen(admits);
+    for (int c = 0; c < 256; c++) {
+        admits[c] = admits[c] != turned;
+        some = some || admits[c];
+    }
+    return some;
+}
+
+static bool read_bound(reader *r, int *bound)
+{
+    int digits = 0;
+
+    *bound = 0;
+    while (more(r) && r->bytes[r->at] >= '0' && r->bytes[r->at] <= '9') {
+        if (++digits > 2)
+            return false;
+        *bound = *bound * 10 + (r->bytes[r->at++] - '0');
+    }
+    return digits > 0;
+}
+
+/* After the {. */
+static bool read_gap(reader *r, int *least, int *most)
+{
+    if (!read_bound(r, least) || !next_is(r, ','))
+        return false;
+    r->at++;
+    if (!read_bound(r, most) || !next_is(r, '}'))
+        return false;
+    r->at++;
+    return *least <= *most && *most >= 1;
+}
+
+/* One element but its mark: the fault's number, or 0. It makes `most` positions, `least` of them not optional. */
+static uint32_t read_kind(reader *r, bool *admits, int *least, int *most)
+{
+    uint8_t c = r->bytes[r->at++];
+
+    memset(admits, 0, 256 * sizeof *admits);
+    *least = *most = 1;
+    if (c == '[')
+        return read_class(r, admits) ? 0 : JAZHUPPE_CLASS;
+    if (c == '{' || c == '.') {
+        memset(admits, 1, 256 * sizeof *admits);
+        return c == '.' || read_gap(r, least, most) ? 0 : JAZHUPPE_GAP;
+    }
+    if (among(c, "?+*"))
+        return JAZHUPPE_MARK;
+    if (among(c, "]}") || (c == '\\' && !read_escaped(r, &c)))
+        return JAZHUPPE_BYTE;
+    admits[c] = true;
+    if (r->fold)
+        widen(admits);
+    return 0;
+}
+
+/* The next element, into the rule's positions. */
+static uint32_t read_element(reader *r, second_rule *rule)
+{
+    bool admits[256], gap = next_is(r, '{'), optional = false, repeatable = false;
+    int least, most;
+    uint32_t fault = read_kind(r, admits, &least, &most);
+
+    if (fault != 0)
+        return fault;
+    if (rule->count + (size_t)most > JAZHUPPE_POSITIONS_MOST)
+        return JAZHUPPE_POSITIONS;
+    if (!gap && more(r) && among(r->bytes[r->at], "?+*")) {
+        optional = !next_is(r, '+');
+        repeatable = !next_is(r, '?');
+        r->at++;
+    }
+    for (int i = 0; i < most; i++) {
+        second_position *p = &rule->positions[rule->count++];
+
+        memcpy(p->admits, admits, sizeof admits);
+        p->optional = optional || i < most - least;
+        p->repeatable = repeatable;
+    }
+    return 0;
+}
+
+/* A mark that follows an element which takes none, or has taken one, begins an element: so its fault is found there. */
+static void read_elements(reader *r, second_rule *rule)
+{
+    while (more(r)) {
+        size_t at = r->at;
+
+        rule->number = read_element(r, rule);
+        if (rule->number != 0) {
+            rule->place = (uint32_t)at;
+            return;
+        }
+    }
+}
+
+static size_t shortest(const second_rule *rule)
+{
+    size_t m = 0;
+
+    for (size_t i = 0; i < rule->count; i++)
+        m += !rule->positions[i].optional;
+    return m;
+}
+
+second_rule second_read(const uint8_t *rule, size_t rule_len, uint32_t fold)
+{
+    reader r = {rule, rule_len, 0, fold != 0};
+    second_rule read;
+
+    memset(&read, 0, sizeof read);
+    if (rule_len == 0) {
+        read.number = JAZHUPPE_RULE_EMPTY;
+    } else if (rule_len > JAZHUPPE_RULE_MOST) {
+        read.number = JAZHUPPE_RULE_LONG;
+        read.place = JAZHUPPE_RULE_MOST;
+    } else {
+        read_elements(&r, &read);
+        if (read.number == 0 && shortest(&read) == 0) {
+            read.number = JAZHUPPE_ADMITS_EMPTY;
+            read.place = (uint32_t)rule_len;
+        }
+    }
+    return read;
+}
+
+/* ---- references */
+
+static const char *const names[] = {"&amp;", "&lt;", "&gt;", "&apos;", "&quot;"};
+static const char name_bytes[] = "&<>'\"";
+enum { NAMES = 5, FORM_MOST = 10 };
+
+static int digit_value(uint8_t c, int base)
+{
+    const char *digits = "0123456789abcdef";
+    const char *at = c == 0 ? NULL : strchr(digits, c >= 'A' && c <= 'F' ? other_case(c) : c);
+
+    return at == NULL || at - digits >= base ? -1 : (int)(at - digits);
+}
+
+static bool is_char(uint32_t n)
+{
+    return n == 9 || n == 10 || n == 13 || (n >= 32 && n <= 55295) || (n >= 57344 && n <= 65533) ||
+           (n >= 65536 && n <= 1114111);
+}
+
+/* The number of the form that these bytes, the ; included, are; or 0, which is no Char. */
+static uint32_t form_number(const uint8_t *s, size_t n)
+{
+    uint32_t value = 0;
+    size_t i = 2;
+    int base = 10;
+
+    for (int k = 0; k < NAMES; k++)
+        if (n == strlen(names[k]) && memcmp(s, names[k], n) == 0)
+            return (uint8_t)name_bytes[k];
+    if (n < 4 || s[1] != '#')
+        return 0;
+    if (s[2] == 'x') {
+        base = 16;
+        i = 3;
+        if (n < 5)
+            return 0;
+    }
+    for (; i < n - 1; i++) {
+        int d = digit_value(s[i], base);
+
+        if (d < 0)
+            return 0;
+        value = value * (uint32_t)base + (uint32_t)d;
+    }
+    return value;
+}
+
+static size_t put_utf8(uint32_t n, uint8_t *out)
+{
+    size_t tail = n < 0x80 ? 0 : n < 0x800 ? 1 : n < 0x10000 ? 2 : 3;
+    static const uint8_t lead[] = {0, 0xC0, 0xE0, 0xF0};
+
+    out[0] = (uint8_t)(lead[tail] | (n >> (6 * tail)));
+    for (size_t i = 1; i <= tail; i++)
+        out[i] = (uint8_t)(0x80 | ((n >> (6 * (tail - i))) & 0x3F));
+    return tail + 1;
+}
+
+/* How many bytes a legal reference at the beginning takes, and its number; 0 if there is none. */
+static size_t reference(const uint8_t *s, size_t n, uint32_t *number)
+{
+    for (size_t k = 0; s[0] == '&' && k < n && k < FORM_MOST; k++) {
+        if (s[k] == ';') {
+            *number = form_number(s, k + 1);
+            return is_char(*number) ? k + 1 : 0;
+        }
+    }
+    return 0;
+}
+
+size_t second_decoded(const uint8_t *raw, size_t raw_len, uint8_t *out)
+{
+    size_t at = 0, wrote = 0;
+
+    while (at < raw_len) {
+        uint32_t number;
+        size_t takes = reference(raw + at, raw_len - at, &number);
+
+        if (takes > 0) {
+            wrote += put_utf8(number, out + wrote);
+            at += takes;
+        } else {
+            out[wrote++] = raw[at++];
+        }
+    }
+    return wrote;
+}
+
+/* Whether a tail is a beginning of a form, and shorter than one. */
+static bool could_grow(const uint8_t *s, size_t n)
+{
+    int base = 10;
+    size_t i = 2;
+
+    for (int k = 0; k < NAMES; k++)
+        if (n < strlen(names[k]) && memcmp(s, names[k], n) == 0)
+            return true;
+    if (n < 2 || n >= FORM_MOST || s[0] != '&' || s[1] != '#')
+        return false;
+    if (n > 2 && s[2] == 'x') {
+        base = 16;
+        i = 3;
+    }
+    for (; i < n; i++)
+        if (digit_value(s[i], base) < 0)
+            return false;
+    return true;
+}
+
+size_t second_held(const uint8_t *raw, size_t raw_len)
+{
+    size_t n = raw_len < FORM_MOST - 1 ? raw_len : FORM_MOST - 1;
+
+    while (n > 0 && !could_grow(raw + raw_len - n, n))
+        n--;
+    return n;
+}
+
+/* ---- occurrences */
+
+/* What shares reach from one start: tried[i][at], the first i positions can fill the bytes from the start to at. */
+typedef struct {
+    const second_rule *rule;
+    const uint8_t *text;
+    size_t length;
+    bool tried[JAZHUPPE_POSITIONS_MOST + 1][SECOND_PLAN_MOST + 1];
+} cutting;
+
+static void cut(cutting *c, size_t i, size_t at)
+{
+    const second_position *p;
+
+    if (c->tried[i][at])
+        return;
+    c->tried[i][at] = true;
+    if (i == c->rule->count)
+        return;
+    p = &c->rule->positions[i];
+    if (p->optional)
+        cut(c, i + 1, at);
+    for (size_t to = at; to < c->length && p->admits[c->text[to]]; to++) {
+        cut(c, i + 1, to + 1);
+        if (!p->repeatable)
+            break;
+    }
+}
+
+/* All cuts of the text from a start on. The caller's text is at most SECOND_PLAN_MOST bytes. */
+static cutting *cuts_from(const second_rule *rule, const uint8_t *text, size_t length, size_t start)
+{
+    static cutting c;
+
+    if (length > SECOND_PLAN_MOST)
+        abort();
+    c.rule = rule;
+    c.text = text;
+    c.length = length;
+    for (size_t i = 0; i <= rule->count; i++)
+        memset(c.tried[i], 0, (length + 1) * sizeof c.tried[i][0]);
+    cut(&c, 0, start);
+    return &c;
+}
+
+void second_filled(const second_rule *rule, const uint8_t *text, size_t text_len, bool *filled)
+{
+    memset(filled, 0, (rule->count + 1) * sizeof *filled);
+    for (size_t start = 0; start <= text_len; start++) {
+        const cutting *c = cuts_from(rule, text, text_len, start);
+
+        for (size_t i = 0; i <= rule->count; i++)
+            filled[i] = filled[i] || c->tried[i][text_len];
+    }
+}
+
+/* The earliest end of an occurrence that starts there, or 0. */
+static size_t earliest_end(const second_rule *rule, const uint8_t *text, size_t length, size_t start)
+{
+    const bool *ends = cuts_from(rule, text, length, start)->tried[rule->count];
+
+    for (size_t end = start; end <= length; end++)
+        if (ends[end])
+            return end;
+    return 0;
+}
+
+/* The ends over `from`, rising. */
+static size_t ends_over(const second_rule *rule, const uint8_t *text, size_t length, size_t from, uint32_t *ends)
+{
+    bool is_end[SECOND_PLAN_MOST + 1] = {false};
+    size_t count = 0;
+
+    for (size_t start = 0; start < length; start++) {
+        const bool *some = cuts_from(rule, text, length, start)->tried[rule->count];
+
+        for (size_t end = from + 1; end <= length; end++)
+            is_end[end] = is_end[end] || some[end];
+    }
+    for (size_t end = from + 1; end <= length; end++)
+        if (is_end[end])
+            ends[count++] = (uint32_t)end;
+    return count;
+}
+
+/* ---- windows */
+
+/* Whether the bytes begin some string that the rule admits: some first positions can fill them, as every position
+ * admits some byte for what comes after. */
+static bool begins(const second_rule *rule, const uint8_t *bytes, size_t length)
+{
+    const cutting *c = cuts_from(rule, bytes, length, 0);
+
+    for (size_t i = 0; i <= rule->count; i++)
+        if (c->tried[i][length])
+            return true;
+    return false;
+}
+
+static size_t shift(const second_rule *rule, const uint8_t *window, size_t m)
+{
+    for (size_t j = 1; j < m; j++)
+        if (begins(rule, window + j, m - j))
+            return j;
+    return m;
+}
+
+static uint32_t windows(const second_rule *rule, const uint8_t *text, size_t length)
+{
+    size_t m = shortest(rule);
+    uint32_t count = 0;
+
+    for (size_t w = 0; w + m <= length; w += shift(rule, text + w, m))
+        count++;
+    return count;
+}
+
+/* ---- calls */
+
+static jazhuppe_answer answer(uint32_t number, uint32_t place, size_t count, uint32_t tried)
+{
+    jazhuppe_answer a = {number, place, (uint32_t)count, tried};
+
+    return a;
+}
+
+static jazhuppe_prepared prepared(const second_rule *rule)
+{
+    jazhuppe_prepared p = {rule->number, rule->place, 0, 0};
+
+    if (rule->number == 0) {
+        p.positions = (uint32_t)rule->count;
+        p.shortest = (uint32_t)shortest(rule);
+    }
+    return p;
+}
+
+static uint32_t whole_refusal(size_t text, size_t list)
+{
+    if (text > JAZHUPPE_TEXT_MOST)
+        return JAZHUPPE_TOO_MUCH;
+    return list < text ? JAZHUPPE_TOO_SHORT : 0;
+}
+
+jazhuppe_prepared second_prepare(const uint8_t *rule, size_t rule_len, uint32_t fold)
+{
+    second_rule read = second_read(rule, rule_len, fold);
+
+    return prepared(&read);
+}
+
+jazhuppe_prepared second_open(const uint8_t *rule, size_t rule_len, uint32_t fold, second_scan *scan)
+{
+    second_rule read = second_read(rule, rule_len, fold);
+
+    if (read.number == 0) {
+        scan->rule = read;
+        scan->length = 0;
+        scan->finished = false;
+    }
+    return prepared(&read);
+}
+
+size_t second_text(const second_scan *scan, uint8_t *out)
+{
+    size_t held = scan->finished ? 0 : second_held(scan->taken, scan->length);
+
+    return second_decoded(scan->taken, scan->length - held, out);
+}
+
+static uint32_t scan_refusal(const second_scan *scan, size_t piece_len, size_t ends_len)
+{
+    if (scan->finished)
+        return JAZHUPPE_FINISHED;
+    if (scan->length + piece_len > JAZHUPPE_TEXT_MOST)
+        return JAZHUPPE_TOO_MUCH;
+    return ends_len < piece_len + JAZHUPPE_HELD_MOST ? JAZHUPPE_TOO_SHORT : 0;
+}
+
+static jazhuppe_answer scan_call(second_scan *scan, const uint8_t *piece, size_t piece_len, bool finish, uint32_t *ends,
+                                 size_t ends_len)
+{
+    uint8_t text[SECOND_PLAN_MOST];
+    size_t before, after;
+    uint32_t number = scan_refusal(scan, piece_len, ends_len);
+
+    if (number != 0)
+        return answer(number, 0, 0, 0);
+    if (scan->length + piece_len > SECOND_PLAN_MOST)
+        abort();
+    before = second_text(scan, text);
+    if (piece_len > 0)
+        memcpy(scan->taken + scan->length, piece, piece_len);
+    scan->length += piece_len;
+    scan->finished = finish;
+    after = second_text(scan, text);
+    return answer(0, 0, ends_over(&scan->rule, text, after, before, ends), 0);
+}
+
+jazhuppe_answer second_feed(second_scan *scan, const uint8_t *piece, size_t piece_len, uint32_t *ends, size_t ends_len)
+{
+    return scan_call(scan, piece, piece_len, false, ends, ends_len);
+}
+
+jazhuppe_answer second_finish(second_scan *scan, uint32_t *ends, size_t ends_len)
+{
+    return scan_call(scan, NULL, 0, true, ends, ends_len);
+}
+
+jazhuppe_answer second_decode(const uint8_t *raw, size_t raw_len, uint8_t *out, size_t out_len)
+{
+    uint32_t number = whole_refusal(raw_len, out_len);
+
+    if (number != 0)
+        return answer(number, 0, 0, 0);
+    return answer(0, 0, second_decoded(raw, raw_len, out), 0);
+}
+
+jazhuppe_answer second_search(const uint8_t *rule, size_t rule_len, uint32_t fold, const uint8_t *text, size_t text_len,
+                              uint32_t *starts, size_t starts_len)
+{
+    second_rule read = second_read(rule, rule_len, fold);
+    size_t count = 0;
+    uint32_t number = whole_refusal(text_len, starts_len);
+
+    if (read.number != 0)
+        return answer(read.number, read.place, 0, 0);
+    if (number != 0)
+        return answer(number, 0, 0, 0);
+    for (size_t start = 0; start < text_len; start++)
+        if (earliest_end(&read, text, text_len, start) != 0)
+            starts[count++] = (uint32_t)start;
+    return answer(0, 0, count, windows(&read, text, text_len));
+}
+
+jazhuppe_span second_show(const uint8_t *rule, size_t rule_len, uint32_t fold, const uint8_t *text, size_t text_len,
+                          size_t start)
+{
+    second_rule read = second_read(rule, rule_len, fold);
+    jazhuppe_span none = {text_len, text_len}, shown = {start, 0};
+
+    if (read.number != 0 || text_len > JAZHUPPE_TEXT_MOST || start > text_len)
+        return none;
+    shown.to = earliest_end(&read, text, text_len, start);
+    return shown.to == 0 ? none : shown;
+}

@@ -1,0 +1,57 @@
+/* second.h: a second implementation, straight from the definitions: occurrences by cutting into shares, references by
+ * spelling, a scan that keeps all bytes taken. No masks, no states. For small plans. */
+#ifndef SECOND_H
+#define SECOND_H
+
+#include <stdbool.h>
+#include <stddef.h>
+#include <stdint.h>
+
+#include "jazhuppe.h"
+
+typedef struct {
+    bool admits[256];
+    bool optional, repeatable;
+} second_position;
+
+typedef struct {
+    uint32_t number, place; /* 0, or the rule's refusal */
+    size_t count;
+    second_position positions[JAZHUPPE_POSITIONS_MOST];
+} second_rule;
+
+enum { SECOND_PLAN_MOST = 2048 };
+
+/* The plain scan: the rule, the bytes taken, and whether it has finished. */
+typedef struct {
+    second_rule rule;
+    uint8_t taken[SECOND_PLAN_MOST];
+    size_t length;
+    bool finished;
+} second_scan;
+
+second_rule second_read(const uint8_t *rule, size_t rule_len, uint32_t fold);
+
+/* The bytes at the end that could still grow into a form. */
+size_t second_held(const uint8_t *raw, size_t raw_len);
+
+/* Decodes whole; out has room for raw_len bytes. */
+size_t second_decoded(const uint8_t *raw, size_t raw_len, uint8_t *out);
+
+/* What the plain scan has decoded so far; out has room for all bytes taken. */
+size_t second_text(const second_scan *scan, uint8_t *out);
+
+/* For each i up to the count of positions: whether some tail of the text can be cut into shares for the first i. */
+void second_filled(const second_rule *rule, const uint8_t *text, size_t text_len, bool *filled);
+
+jazhuppe_prepared second_prepare(const uint8_t *rule, size_t rule_len, uint32_t fold);
+jazhuppe_prepared second_open(const uint8_t *rule, size_t rule_len, uint32_t fold, second_scan *scan);
+jazhuppe_answer second_feed(second_scan *scan, const uint8_t *piece, size_t piece_len, uint32_t *ends, size_t ends_len);
+jazhuppe_answer second_finish(second_scan *scan, uint32_t *ends, size_t ends_len);
+jazhuppe_answer second_decode(const uint8_t *raw, size_t raw_len, uint8_t *out, size_t out_len);
+jazhuppe_answer second_search(const uint8_t *rule, size_t rule_len, uint32_t fold, const uint8_t *text, size_t text_len,
+                              uint32_t *starts, size_t starts_len);
+jazhuppe_span second_show(const uint8_t *rule, size_t rule_len, uint32_t fold, const uint8_t *text, size_t text_len,
+                          size_t start);
+
+#endif

@@ -1,0 +1,146 @@
+/* jazhuppe.h: finds where a seat rule occurs in a seating plan, after the plan's references have been decoded.
+ *
+ * Two searches give the same occurrences:
+ *
+ *   the forward scan   jazhuppe_open, then jazhuppe_feed for each piece of the raw plan, then jazhuppe_finish:
+ *                      the ends of occurrences, with the same memory for a plan of any length;
+ *   the window search  jazhuppe_decode the raw plan, then jazhuppe_search its decoded text: the starts.
+ *
+ * RULE. 1 to 255 bytes, never decoded. Any byte but a mark (. [ ] { } ? + * \) stands for itself; \ before a mark, ^ or -
+ * gives that byte; . is any byte; [..] is a class of bytes and ranges lo-hi, turned round by a first ^; {a,b} is a gap
+ * of a to b bytes of any kind; ? + * after an element other than a gap make it optional, repeatable, or both. A gap makes b
+ * positions, every other element one; a rule has at most 63. With fold set (any number but 0) letters of A to Z and a to z
+ * stand for both cases.
+ *
+ * TEXT. Places count decoded bytes: a start is counted from 0, an end is the count of bytes up to and including the
+ * occurrence's last. A reference (&amp; &lt; &gt; &apos; &quot; &#38; &#x26; of at most 10 bytes, its number a Char of XML 1.0)
+ * is decoded to its UTF-8 bytes, once; anything else stays as it is.
+ *
+ * LENDER'S DUTIES. A call is lent slices, each a pointer and a length in entries:
+ *
+ *   - each slice is memory of the length named, aligned for its entries;
+ *   - a slice that the call writes (pointer not to const) lies apart from every other slice of that call;
+ *   - nobody else touches the slices until the call returns;
+ *   - a pointer may be NULL where its length is 0.
+ *
+ * Nothing else is asked: whatever the bytes and numbers in them, a call returns a finished result or one of the twelve
+ * refusals below. A call keeps no pointer, allocates nothing and has no other state than what it is lent, so calls on
+ * different slices may run at the same time.
+ *
+ * REFUSALS. A finished result has number 0 and place 0. A refusal has its number, its place (0 where none is given) and
+ * zeros beside them, and leaves lists, buffers and the scan value as they were. A finished call writes as many entries
+ * as it reports; past them a list or buffer is as it was.
+ */
+#ifndef JAZHUPPE_H
+#define JAZHUPPE_H
+
+#include <stddef.h>
+#include <stdint.h>
+
+#ifdef __cplusplus
+extern "C" {
+#endif
+
+#define JAZHUPPE_VERSION "1.0.0"
+
+/* The refusals. 1 and 2 come first, then the leftmost of 3 to 7 (an element's own fault before 7), then 8.
+ * A call on a whole text checks the rule, then 10, then 9. A scan call checks 11, 12, 10, 9. */
+#define JAZHUPPE_RULE_EMPTY 1    /* rule of length 0; place 0 */
+#define JAZHUPPE_RULE_LONG 2     /* rule over 255 bytes; place 255 */
+#define JAZHUPPE_CLASS 3         /* class unclosed, empty, with a reversed range, a bad \ or misplaced -, or left with
+                                    no byte; place of the [ */
+#define JAZHUPPE_GAP 4           /* gap not of the given form, a > b, or b = 0; place of the { */
+#define JAZHUPPE_MARK 5          /* ?, +, * first, after a gap, or after another of them; place of the mark */
+#define JAZHUPPE_BYTE 6          /* outside a class: bad or last \, or stray ] or }; place of the byte */
+#define JAZHUPPE_POSITIONS 7     /* an element takes the positions past 63; place of the element */
+#define JAZHUPPE_ADMITS_EMPTY 8  /* the empty string is admitted: every position is optional; place = rule length */
+#define JAZHUPPE_TOO_SHORT 9     /* list or buffer too short */
+#define JAZHUPPE_TOO_MUCH 10     /* more than 4,294,967,295 bytes in the text, or in all the pieces */
+#define JAZHUPPE_IMPOSSIBLE 11   /* impossible scan value */
+#define JAZHUPPE_FINISHED 12     /* scan already finished */
+
+/* The limits. */
+#define JAZHUPPE_RULE_MOST 255           /* bytes of a rule */
+#define JAZHUPPE_POSITIONS_MOST 63       /* positions of a rule */
+#define JAZHUPPE_TEXT_MOST 4294967295u   /* bytes of a text, or of all the pieces of a plan */
+#define JAZHUPPE_SCAN_WORDS 273          /* the length of a scan value */
+#define JAZHUPPE_HELD_MOST 9             /* bytes that a scan holds back between pieces, so the entries that a feed's
+                                            list needs beyond the piece's length, and a finish's in all */
+
+/* What a rule comes to. */
+typedef struct {
+    uint32_t number;     /* 0, or the refusal */
+    uint32_t place;      /* where in the rule */
+    uint32_t positions;  /* how many, 1 to 63 */
+    uint32_t shortest;   /* the shortest length of an occurrence: the positions that are not optional */
+} jazhuppe_prepared;
+
+/* What a call on a plan or a text comes to. */
+typedef struct {
+    uint32_t number;   /* 0, or the refusal */
+    uint32_t place;    /* where in the rule */
+    uint32_t count;    /* entries written */
+    uint32_t windows;  /* windows tried by a search; 0 in every other answer */
+} jazhuppe_answer;
+
+/* A part of a text: its bytes from `from` up to, but without, `to`. */
+typedef struct {
+    size_t from;
+    size_t to;
+} jazhuppe_span;
+
+/* Looks at a rule. Refusals 1 to 8. */
+jazhuppe_prepared jazhuppe_prepare(const uint8_t *rule, size_t rule_len, uint32_t fold);
+
+/* Opens a scan: writes the scan value, whole, whatever stood there.
+ * Refusals 1 to 8, then 11 where scan_len is not JAZHUPPE_SCAN_WORDS. */
+jazhuppe_prepared jazhuppe_open(const uint8_t *rule, size_t rule_len, uint32_t fold, uint64_t *scan, size_t scan_len);
+
+/* Feeds the next piece of the raw plan, of any length and cut anywhere: writes the ends of the occurrences that it
+ * completes, each once, rising, and moves the scan value on. A tail that could still grow into a reference is held
+ * back for the next call. The list needs piece_len + JAZHUPPE_HELD_MOST entries.
+ * Refusals 11, 12, 10 (all the pieces together), 9. */
+jazhuppe_answer jazhuppe_feed(uint64_t *scan, size_t scan_len, const uint8_t *piece, size_t piece_len, uint32_t *ends,
+                              size_t ends_len);
+
+/* Finishes the scan: what is held back is let through as it came, and the ends in it are written. The list needs
+ * JAZHUPPE_HELD_MOST entries. A finished scan takes no more calls; the value may be opened again.
+ * Refusals 11, 12, 9. */
+jazhuppe_answer jazhuppe_finish(uint64_t *scan, size_t scan_len, uint32_t *ends, size_t ends_len);
+
+/* Decodes a whole raw plan; count is the bytes written. The buffer needs raw_len bytes. Refusals 10, 9. */
+jazhuppe_answer jazhuppe_decode(const uint8_t *raw, size_t raw_len, uint8_t *out, size_t out_len);
+
+/* Searches a whole decoded text (it decodes nothing): writes the starts of occurrences, each once, rising. The list
+ * needs text_len entries. Refusals 1 to 8, 10, 9. */
+jazhuppe_answer jazhuppe_search(const uint8_t *rule, size_t rule_len, uint32_t fold, const uint8_t *text,
+                                size_t text_len, uint32_t *starts, size_t starts_len);
+
+/* Shows the occurrence at a start of a decoded text: the part from the start to the earliest end there. It gives no
+ * number: both ends of the span are text_len where the rule is refused, the text is over its limit, the start is past
+ * the text, or nothing starts there. */
+jazhuppe_span jazhuppe_show(const uint8_t *rule, size_t rule_len, uint32_t fold, const uint8_t *text, size_t text_len,
+                            size_t start);
+
+/* THE SCAN VALUE is JAZHUPPE_SCAN_WORDS numbers. It may be copied, kept and taken up again, in another process too:
+ *
+ *   0 to 255    for each byte, the positions that admit it: bit i is position i, counted from 1
+ *   256         the repeatable positions
+ *   257         the optional positions
+ *   258         how many positions, 1 to 63
+ *   259         the state: bit i says that some tail of the text so far fills the first i positions
+ *   260         1 if it is finished, else 0
+ *   261         the bytes taken, up to 4,294,967,295
+ *   262         the bytes decoded from them
+ *   263         how many bytes are held back, at most 9
+ *   264 to 272  the bytes held back, each 0 to 255, 0 past their count
+ *
+ * It is impossible (11) when it has another length, over 63 positions or none, a finished field other than 0 or 1, a count
+ * or a byte over what its field holds, held bytes that are not a tail that could still grow into a reference, or
+ * decoded and held counts that together exceed the bytes taken. Words 0 to 257 and 259 may be any numbers. */
+
+#ifdef __cplusplus
+}
+#endif
+
+#endif
