@@ -209,6 +209,13 @@ pub fn searches(
     )
 }
 
+// The shown occurrence at a start.
+pub fn shows(rule: &[u8], fold: u32, r: Rule, table: &[bool], text: &[u8], start: usize) -> bool {
+    let a = finder::exports::jazhuppe_show(rule, fold, text, start);
+    let b = naive::show(r, table, text, start);
+    both(a.from == b.from, a.to == b.to)
+}
+
 // ---- scans
 
 // Whether a scan call did the same, and the plain scan after it.
@@ -257,7 +264,7 @@ fn feed_both(
     r: Rule,
     table: &[bool],
     plain: Plain,
-    kept: &mut [u8],
+    p: &[u8],
     piece: &[u8],
     ours: &mut [u32],
     theirs: &mut [u32],
@@ -265,17 +272,17 @@ fn feed_both(
 ) -> Compared {
     let before = copy_of(scan);
     let a = scan::feed(scan, piece, ours);
-    let c = naive::feed(r, table, plain, kept, piece, theirs);
+    let c = naive::feed(r, table, plain, p, piece.len(), theirs);
     compare_scan_call(a, c, scan, &before, ours, theirs, tally)
 }
 
-// With a list of n entries.
+// With a list of n entries; `p` are the bytes taken, with the piece after them.
 pub fn feeds(
     scan: &mut [u64],
     r: Rule,
     table: &[bool],
     plain: Plain,
-    kept: &mut [u8],
+    p: &[u8],
     piece: &[u8],
     n: usize,
     tally: &mut [u64],
@@ -288,7 +295,7 @@ pub fn feeds(
         r,
         table,
         plain,
-        kept,
+        p,
         piece,
         &mut ours[0..m],
         &mut theirs[0..m],
@@ -301,24 +308,24 @@ fn finish_both(
     r: Rule,
     table: &[bool],
     plain: Plain,
-    kept: &[u8],
+    p: &[u8],
     ours: &mut [u32],
     theirs: &mut [u32],
     tally: &mut [u64],
 ) -> Compared {
     let before = copy_of(scan);
     let a = scan::finish(scan, ours);
-    let c = naive::finish(r, table, plain, kept, theirs);
+    let c = naive::finish(r, table, plain, p, theirs);
     compare_scan_call(a, c, scan, &before, ours, theirs, tally)
 }
 
-// With a list of n entries.
+// With a list of n entries; `p` are the bytes taken.
 pub fn finishes(
     scan: &mut [u64],
     r: Rule,
     table: &[bool],
     plain: Plain,
-    kept: &[u8],
+    p: &[u8],
     n: usize,
     tally: &mut [u64],
 ) -> Compared {
@@ -330,7 +337,7 @@ pub fn finishes(
         r,
         table,
         plain,
-        kept,
+        p,
         &mut ours[0..m],
         &mut theirs[0..m],
         tally,

@@ -13,7 +13,7 @@ const CUTS: usize = 20;
 fn compare_often(rule: &[u8], fold: u32, raw: &[u8], random: &mut u64, tally: &mut [u64]) {
     let mut left = CUTS;
     while left > 0 {
-        comparing::compare(rule, fold, raw, random, tally);
+        cases::compare(rule, fold, raw, random, tally);
         left -= 1;
     }
 }
@@ -75,9 +75,9 @@ fn are(bytes: &[u8], hexadecimal: &[u8]) -> bool {
 }
 
 fn decodes_to(raw: &[u8], hexadecimal: &[u8]) -> bool {
-    let mut out = [0u8; comparing::TEXT];
+    let mut out = [0u8; cases::TEXT];
     let a = naive::decode(raw, &mut out);
-    let n = at_most(a.count, comparing::TEXT);
+    let n = at_most(a.count, cases::TEXT);
     are(&out[0..n], hexadecimal)
 }
 
@@ -103,11 +103,11 @@ fn published(raw: &[u8], hexadecimal: &[u8], random: &mut u64, tally: &mut [u64]
 
 fn draw_case(random: &mut u64, tally: &mut [u64]) {
     let mut rule = [0u8; 300];
-    let mut raw = [0u8; comparing::TEXT];
+    let mut raw = [0u8; cases::TEXT];
     let n = at_most(generated::rule(random, &mut rule), 300);
-    let m = at_most(generated::text(random, &mut raw), comparing::TEXT);
+    let m = at_most(generated::text(random, &mut raw), cases::TEXT);
     let fold = generated::up_to(random, 2) as u32;
-    comparing::compare(&rule[0..n], fold * 256, &raw[0..m], random, tally);
+    cases::compare(&rule[0..n], fold * 256, &raw[0..m], random, tally);
 }
 
 fn draw_cases(cases: usize, random: &mut u64, tally: &mut [u64]) {
