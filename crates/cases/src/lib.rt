@@ -2,10 +2,9 @@
 // whole case.
 use comparing::calls;
 use comparing::calls::at_most;
-use comparing::report;
-use comparing::report::Call;
 use naive_rules::Rule;
 use naive_rules::positions;
+use reports::Call;
 
 // Bytes of the longest raw text of a case.
 pub const TEXT: usize = 480;
@@ -26,22 +25,22 @@ fn less(n: usize) -> usize {
 }
 
 fn count_rule(r: Rule, tally: &mut [u64]) {
-    report::count_call(tally, r.number);
+    reports::count_call(tally, r.number);
     if r.number == 0 {
-        report::add(tally, report::ACCEPTED, 1);
+        reports::add(tally, reports::ACCEPTED, 1);
     }
 }
 
 // An opening with a slice of n numbers.
 fn compare_open(rule: &[u8], fold: u32, raw: &[u8], r: Rule, n: usize, tally: &mut [u64]) {
     let same = calls::opens(rule, fold, r, n);
-    report::expect(same, b"open", whole(rule.len(), n), rule, fold, raw, tally);
+    reports::expect(same, b"open", whole(rule.len(), n), rule, fold, raw, tally);
 }
 
 fn compare_rule(rule: &[u8], fold: u32, raw: &[u8], r: Rule, tally: &mut [u64]) {
     count_rule(r, tally);
     let same = calls::prepares(rule, fold, r);
-    report::expect(
+    reports::expect(
         same,
         b"prepare",
         whole(rule.len(), 0),
@@ -60,7 +59,7 @@ fn compare_opens(rule: &[u8], fold: u32, raw: &[u8], r: Rule, tally: &mut [u64])
 
 fn compare_decode(rule: &[u8], fold: u32, raw: &[u8], n: usize, tally: &mut [u64]) {
     let same = calls::decodes(raw, n, tally);
-    report::expect(same, b"decode", whole(raw.len(), n), rule, fold, raw, tally);
+    reports::expect(same, b"decode", whole(raw.len(), n), rule, fold, raw, tally);
 }
 
 fn compare_search(
@@ -73,7 +72,7 @@ fn compare_search(
     tally: &mut [u64],
 ) {
     let same = calls::searches(rule, fold, r, table, text, n, tally);
-    report::expect(
+    reports::expect(
         same,
         b"search",
         whole(text.len(), n),
@@ -117,7 +116,8 @@ fn shows_all(rule: &[u8], fold: u32, r: Rule, table: &[bool], text: &[u8]) -> bo
 
 fn compare_shown(rule: &[u8], fold: u32, text: &[u8], r: Rule, table: &[bool], tally: &mut [u64]) {
     let same = shows_all(rule, fold, r, table, text);
-    report::expect(same, b"show", whole(text.len(), 0), rule, fold, text, tally);
+    reports::add(tally, reports::SHOWN, text.len());
+    reports::expect(same, b"show", whole(text.len(), 0), rule, fold, text, tally);
 }
 
 // A scan of the text in pieces; or, where no scan can be open, of a value that is impossible.
@@ -135,7 +135,7 @@ fn compare_scan(
         return;
     }
     let same = calls::refuses_zeros(raw, tally);
-    report::expect(
+    reports::expect(
         same,
         b"a scan value of zeros",
         whole(raw.len(), 9),
@@ -150,9 +150,9 @@ fn compare_scan(
 pub fn compare(rule: &[u8], fold: u32, raw: &[u8], random: &mut u64, tally: &mut [u64]) {
     let mut table = [false; positions::TABLE];
     let r = naive_rules::read(rule, fold, &mut table);
-    report::add(
+    reports::add(
         tally,
-        report::REFERENCES,
+        reports::REFERENCES,
         naive_references::references_in(raw),
     );
     compare_rule(rule, fold, raw, r, tally);

@@ -1,6 +1,5 @@
 // Each call of the finder next to that of `naive`, with what they were lent.
 ghost use Prim.Native.Nat.{_≤_};
-use super::report;
 use naive::Called;
 use naive::Plain;
 use naive_rules::Rule;
@@ -154,7 +153,7 @@ pub fn opens(rule: &[u8], fold: u32, r: Rule, n: usize) -> bool {
 fn decode_both(raw: &[u8], ours: &mut [u8], theirs: &mut [u8], tally: &mut [u64]) -> bool {
     let a = references::decode(raw, ours);
     let b = naive::decode(raw, theirs);
-    report::count_call(tally, b.number);
+    reports::count_call(tally, b.number);
     both(same_answer(a, b), same_bytes(ours, theirs))
 }
 
@@ -178,9 +177,9 @@ fn search_both(
 ) -> bool {
     let a = finder::search(rule, fold, text, ours);
     let b = naive::search(r, table, text, theirs);
-    report::count_call(tally, b.number);
-    report::add(tally, report::STARTS, b.count);
-    report::add(tally, report::WINDOWS, b.windows);
+    reports::count_call(tally, b.number);
+    reports::add(tally, reports::STARTS, b.count);
+    reports::add(tally, reports::WINDOWS, b.windows);
     both(same_answer(a, b), same_list(ours, theirs))
 }
 
@@ -236,8 +235,8 @@ fn compare_scan_call(
 ) -> Compared {
     let b = c.answer;
     let plain = c.plain;
-    report::count_call(tally, b.number);
-    report::add(tally, report::ENDS, b.count);
+    reports::count_call(tally, b.number);
+    reports::add(tally, reports::ENDS, b.count);
     let answers = both(same_answer(a, b), same_list(ours, theirs));
     let same = both(answers, kept_if(a.number != 0, scan, before));
     Compared {
@@ -366,7 +365,7 @@ fn refuse_both(piece: &[u8], scan: &mut [u64], list: &mut [u32]) -> bool {
 pub fn refuses_zeros(piece: &[u8], tally: &mut [u64]) -> bool {
     let mut scan = [0u64; scan_values::LENGTH];
     let mut list = [MARK; 9];
-    report::count_call(tally, 11);
-    report::count_call(tally, 11);
+    reports::count_call(tally, 11);
+    reports::count_call(tally, 11);
     refuse_both(piece, &mut scan, &mut list)
 }

@@ -129,10 +129,10 @@ fn put_if(wanted: bool, list: &mut [u32], count: usize, n: usize) -> usize {
 // Puts the marked places past `old` into a list.
 fn put_marked(places: &[bool], old: usize, list: &mut [u32]) -> usize {
     let mut count = 0;
-    let mut p = 0;
+    let mut p = old;
     while p < places.len() {
-        count = put_if(places[p] && p > old, list, count, p);
         p += 1;
+        count = put_if(shares::is_marked(places, p), list, count, p);
     }
     count
 }

@@ -5,12 +5,11 @@ ghost use lib.ListN.{length};
 use comparing::calls;
 use comparing::calls::Compared;
 use comparing::calls::at_most;
-use comparing::report;
-use comparing::report::Call;
 use generated::one_in;
 use generated::up_to;
 use naive::Plain;
 use naive_rules::Rule;
+use reports::Call;
 
 const LIMIT: usize = 4_294_967_295;
 
@@ -202,7 +201,7 @@ fn feed_pieces(
         let more = at_most(up_to(random, 10), raw.len() - at - 1);
         let e = at + 1 + more;
         s = feed_piece(s, r, table, scan, &raw[0..e], at, random, tally);
-        report::add(tally, report::PIECES, 1);
+        reports::add(tally, reports::PIECES, 1);
         at = e;
     }
     s
@@ -260,5 +259,5 @@ pub fn compare(
     let mut scan = [0u64; scan_values::LENGTH];
     scan::open(rule, fold, &mut scan);
     let s = scan_text(r, table, &mut scan, raw, random, tally);
-    report::expect(s.same, b"scan call", s.call, rule, fold, raw, tally);
+    reports::expect(s.same, b"scan call", s.call, rule, fold, raw, tally);
 }
