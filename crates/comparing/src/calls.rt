@@ -1,6 +1,5 @@
 // Each call of the finder next to that of `naive`, with what they were lent.
 ghost use Prim.Native.Nat.{_≤_};
-use super::report;
 use naive::Called;
 use naive::Plain;
 use naive_rules::Rule;
@@ -8,6 +7,9 @@ use references::Answer;
 
 // Entries of the lists and buffers that the calls are lent parts of.
 pub const LIST: usize = 512;
+
+// Numbers of the slice that an opening is lent a part of: one more than a scan value has.
+const SCAN: usize = 274;
 
 // What each entry is set to before a call, to see which of them it writes.
 const MARK: u32 = 4_294_967_295;
@@ -23,6 +25,13 @@ pub fn at_most(n: usize, most: usize) -> usize
         return n;
     }
     most
+}
+
+fn both(a: bool, b: bool) -> bool {
+    if a {
+        return b;
+    }
+    false
 }
 
 fn same_bytes(a: &[u8], b: &[u8]) -> bool {
@@ -68,19 +77,31 @@ fn same_words(a: &[u64], b: &[u64]) -> bool {
 }
 
 fn same_answer(a: Answer, b: naive::Answer) -> bool {
-    a.number == b.number
-        && a.place as usize == b.place
-        && a.count as usize == b.count
-        && a.windows as usize == b.windows
+    if a.number != b.number {
+        return false;
+    }
+    if a.place as usize != b.place {
+        return false;
+    }
+    if a.count as usize != b.count {
+        return false;
+    }
+    a.windows as usize == b.windows
 }
 
 // ---- rules
 
 fn same_rule(number: u32, place: u32, positions: u32, shortest: u32, r: Rule) -> bool {
-    number == r.number
-        && place as usize == r.place
-        && positions as usize == r.positions
-        && shortest as usize == r.shortest
+    if number != r.number {
+        return false;
+    }
+    if place as usize != r.place {
+        return false;
+    }
+    if positions as usize != r.positions {
+        return false;
+    }
+    shortest as usize == r.shortest
 }
 
 pub fn prepares(rule: &[u8], fold: u32, r: Rule) -> bool {
@@ -88,39 +109,43 @@ pub fn prepares(rule: &[u8], fold: u32, r: Rule) -> bool {
     same_rule(p.number, p.place, p.positions, p.shortest, r)
 }
 
-// An opening, which writes its slice only if it is not refused.
-fn opens_to(rule: &[u8], fold: u32, scan: &mut [u64], before: &[u64], r: Rule) -> bool {
-    let o = scan::open(rule, fold, scan);
-    same_rule(o.number, o.place, o.positions, o.shortest, r)
-        && (o.number == 0 || same_words(scan, before))
-}
-
-pub fn opens(rule: &[u8], fold: u32, r: Rule) -> bool {
-    let mut scan = [MARK_WORD; scan_values::LENGTH];
-    let before = [MARK_WORD; scan_values::LENGTH];
-    opens_to(rule, fold, &mut scan, &before, r)
-}
-
-// What an opening with a slice of another length answers: 11, but a refused rule comes first.
-fn other_length(r: Rule) -> Rule {
+// What an opening answers: a slice of another length than a scan value gives 11, but a refused rule
+// comes first.
+fn opened(r: Rule, n: usize) -> Rule {
     if r.number != 0 {
         return r;
     }
-    Rule {
-        number: 11,
-        place: 0,
-        positions: 0,
-        shortest: 0,
+    if n != scan_values::LENGTH {
+        return Rule {
+            number: 11,
+            place: 0,
+            positions: 0,
+            shortest: 0,
+        };
     }
+    r
 }
 
-pub fn opens_other_length(rule: &[u8], fold: u32, r: Rule) -> bool {
-    let mut short = [MARK_WORD; 272];
-    let mut long = [MARK_WORD; 274];
-    let before_short = [MARK_WORD; 272];
-    let before_long = [MARK_WORD; 274];
-    opens_to(rule, fold, &mut short, &before_short, other_length(r))
-        && opens_to(rule, fold, &mut long, &before_long, other_length(r))
+// An opening writes its slice only if it is not refused.
+fn kept_if(refused: bool, scan: &[u64], before: &[u64]) -> bool {
+    if refused {
+        return same_words(scan, before);
+    }
+    true
+}
+
+fn open_both(rule: &[u8], fold: u32, r: Rule, scan: &mut [u64], before: &[u64]) -> bool {
+    let o = scan::open(rule, fold, scan);
+    let same = same_rule(o.number, o.place, o.positions, o.shortest, r);
+    both(same, kept_if(o.number != 0, scan, before))
+}
+
+// With a slice of n numbers.
+pub fn opens(rule: &[u8], fold: u32, r: Rule, n: usize) -> bool {
+    let m = at_most(n, SCAN);
+    let mut scan = [MARK_WORD; SCAN];
+    let before = [MARK_WORD; SCAN];
+    open_both(rule, fold, opened(r, m), &mut scan[0..m], &before[0..m])
 }
 
 // ---- whole texts
@@ -128,8 +153,8 @@ pub fn opens_other_length(rule: &[u8], fold: u32, r: Rule) -> bool {
 fn decode_both(raw: &[u8], ours: &mut [u8], theirs: &mut [u8], tally: &mut [u64]) -> bool {
     let a = references::decode(raw, ours);
     let b = naive::decode(raw, theirs);
-    report::count_call(tally, b.number);
-    same_answer(a, b) && same_bytes(ours, theirs)
+    reports::count_call(tally, b.number);
+    both(same_answer(a, b), same_bytes(ours, theirs))
 }
 
 // With a buffer of n bytes.
@@ -152,10 +177,10 @@ fn search_both(
 ) -> bool {
     let a = finder::search(rule, fold, text, ours);
     let b = naive::search(r, table, text, theirs);
-    report::count_call(tally, b.number);
-    report::add(tally, report::STARTS, b.count);
-    report::add(tally, report::WINDOWS, b.windows);
-    same_answer(a, b) && same_list(ours, theirs)
+    reports::count_call(tally, b.number);
+    reports::add(tally, reports::STARTS, b.count);
+    reports::add(tally, reports::WINDOWS, b.windows);
+    both(same_answer(a, b), same_list(ours, theirs))
 }
 
 // With a list of n entries.
@@ -183,6 +208,13 @@ pub fn searches(
     )
 }
 
+// The shown occurrence at a start.
+pub fn shows(rule: &[u8], fold: u32, r: Rule, table: &[bool], text: &[u8], start: usize) -> bool {
+    let a = finder::exports::jazhuppe_show(rule, fold, text, start);
+    let b = naive::show(r, table, text, start);
+    both(a.from == b.from, a.to == b.to)
+}
+
 // ---- scans
 
 // Whether a scan call did the same, and the plain scan after it.
@@ -203,11 +235,12 @@ fn compare_scan_call(
 ) -> Compared {
     let b = c.answer;
     let plain = c.plain;
-    report::count_call(tally, b.number);
-    report::add(tally, report::ENDS, b.count);
-    let scan_is = a.number == 0 || same_words(scan, before);
+    reports::count_call(tally, b.number);
+    reports::add(tally, reports::ENDS, b.count);
+    let answers = both(same_answer(a, b), same_list(ours, theirs));
+    let same = both(answers, kept_if(a.number != 0, scan, before));
     Compared {
-        same: same_answer(a, b) && same_list(ours, theirs) && scan_is,
+        same: same,
         plain: plain,
     }
 }
@@ -230,7 +263,7 @@ fn feed_both(
     r: Rule,
     table: &[bool],
     plain: Plain,
-    kept: &mut [u8],
+    p: &[u8],
     piece: &[u8],
     ours: &mut [u32],
     theirs: &mut [u32],
@@ -238,17 +271,17 @@ fn feed_both(
 ) -> Compared {
     let before = copy_of(scan);
     let a = scan::feed(scan, piece, ours);
-    let c = naive::feed(r, table, plain, kept, piece, theirs);
+    let c = naive::feed(r, table, plain, p, piece.len(), theirs);
     compare_scan_call(a, c, scan, &before, ours, theirs, tally)
 }
 
-// With a list of n entries.
+// With a list of n entries; `p` are the bytes taken, with the piece after them.
 pub fn feeds(
     scan: &mut [u64],
     r: Rule,
     table: &[bool],
     plain: Plain,
-    kept: &mut [u8],
+    p: &[u8],
     piece: &[u8],
     n: usize,
     tally: &mut [u64],
@@ -261,7 +294,7 @@ pub fn feeds(
         r,
         table,
         plain,
-        kept,
+        p,
         piece,
         &mut ours[0..m],
         &mut theirs[0..m],
@@ -274,24 +307,24 @@ fn finish_both(
     r: Rule,
     table: &[bool],
     plain: Plain,
-    kept: &[u8],
+    p: &[u8],
     ours: &mut [u32],
     theirs: &mut [u32],
     tally: &mut [u64],
 ) -> Compared {
     let before = copy_of(scan);
     let a = scan::finish(scan, ours);
-    let c = naive::finish(r, table, plain, kept, theirs);
+    let c = naive::finish(r, table, plain, p, theirs);
     compare_scan_call(a, c, scan, &before, ours, theirs, tally)
 }
 
-// With a list of n entries.
+// With a list of n entries; `p` are the bytes taken.
 pub fn finishes(
     scan: &mut [u64],
     r: Rule,
     table: &[bool],
     plain: Plain,
-    kept: &[u8],
+    p: &[u8],
     n: usize,
     tally: &mut [u64],
 ) -> Compared {
@@ -303,32 +336,36 @@ pub fn finishes(
         r,
         table,
         plain,
-        kept,
+        p,
         &mut ours[0..m],
         &mut theirs[0..m],
         tally,
     )
 }
 
-fn is_eleven(a: Answer, list: &[u32]) -> bool {
-    let eleven = naive::Answer {
-        number: 11,
-        place: 0,
-        count: 0,
-        windows: 0,
-    };
-    let before = [MARK; 9];
-    same_answer(a, eleven) && same_list(list, &before)
+fn is_eleven(a: Answer) -> bool {
+    same_answer(
+        a,
+        naive::Answer {
+            number: 11,
+            place: 0,
+            count: 0,
+            windows: 0,
+        },
+    )
 }
 
-// A feed and a finish of a scan value of zeros, which has no position.
+// A feed and a finish of a scan value that is impossible, since it has no position.
+fn refuse_both(piece: &[u8], scan: &mut [u64], list: &mut [u32]) -> bool {
+    let fed = scan::feed(scan, piece, list);
+    let finished = scan::finish(scan, list);
+    both(is_eleven(fed), is_eleven(finished))
+}
+
 pub fn refuses_zeros(piece: &[u8], tally: &mut [u64]) -> bool {
     let mut scan = [0u64; scan_values::LENGTH];
-    let before = [0u64; scan_values::LENGTH];
     let mut list = [MARK; 9];
-    let fed = scan::feed(&mut scan, piece, &mut list);
-    let finished = scan::finish(&mut scan, &mut list);
-    report::count_call(tally, 11);
-    report::count_call(tally, 11);
-    is_eleven(fed, &list) && is_eleven(finished, &list) && same_words(&scan, &before)
+    reports::count_call(tally, 11);
+    reports::count_call(tally, 11);
+    refuse_both(piece, &mut scan, &mut list)
 }

@@ -77,7 +77,7 @@ fn put(list: &mut [u32], count: usize, n: usize) -> usize {
 
 // ---- the plain scan
 
-// P is the first `taken` bytes of what the caller keeps for it.
+// How many bytes were taken: P itself, the caller keeps.
 pub struct Plain {
     pub taken: usize,
     pub finished: bool,
@@ -129,10 +129,10 @@ fn put_if(wanted: bool, list: &mut [u32], count: usize, n: usize) -> usize {
 // Puts the marked places past `old` into a list.
 fn put_marked(places: &[bool], old: usize, list: &mut [u32]) -> usize {
     let mut count = 0;
-    let mut p = 0;
+    let mut p = old;
     while p < places.len() {
-        count = put_if(places[p] && p > old, list, count, p);
         p += 1;
+        count = put_if(shares::is_marked(places, p), list, count, p);
     }
     count
 }
@@ -177,53 +177,34 @@ fn at_most(n: usize, most: usize) -> usize
     most
 }
 
-// Adds a piece to P; how many bytes P has then.
-fn add_piece(kept: &mut [u8], taken: usize, piece: &[u8]) -> usize {
-    let mut n = taken;
-    let mut i = 0;
-    while i < piece.len() {
-        n = keep(kept, n, piece[i]);
-        i += 1;
-    }
-    n
-}
-
-fn keep(kept: &mut [u8], n: usize, c: u8) -> usize {
-    if n < kept.len() {
-        kept[n] = c;
-        return n + 1;
-    }
-    n
-}
-
+// `p` is P with the piece, of so many bytes, after it.
 pub fn feed(
     r: Rule,
     table: &[bool],
     plain: Plain,
-    kept: &mut [u8],
-    piece: &[u8],
+    p: &[u8],
+    piece: usize,
     ends: &mut [u32],
 ) -> Called {
-    let number = scan_refusal(plain, piece.len(), ends.len());
+    let number = scan_refusal(plain, piece, ends.len());
     if number != 0 {
         return Called {
             answer: refused(number, 0),
             plain: plain,
         };
     }
-    let n = add_piece(kept, plain.taken, piece);
-    let p = at_most(n, kept.len());
-    let count = put_new_ends(r, table, &kept[0..p], plain.taken, false, ends);
+    let count = put_new_ends(r, table, p, plain.taken, false, ends);
     Called {
         answer: reported(count, 0),
         plain: Plain {
-            taken: n,
+            taken: p.len(),
             finished: false,
         },
     }
 }
 
-pub fn finish(r: Rule, table: &[bool], plain: Plain, kept: &[u8], ends: &mut [u32]) -> Called {
+// `p` is P.
+pub fn finish(r: Rule, table: &[bool], plain: Plain, p: &[u8], ends: &mut [u32]) -> Called {
     let number = scan_refusal(plain, 0, ends.len());
     if number != 0 {
         return Called {
@@ -231,8 +212,7 @@ pub fn finish(r: Rule, table: &[bool], plain: Plain, kept: &[u8], ends: &mut [u3
             plain: plain,
         };
     }
-    let p = at_most(plain.taken, kept.len());
-    let count = put_new_ends(r, table, &kept[0..p], plain.taken, true, ends);
+    let count = put_new_ends(r, table, p, plain.taken, true, ends);
     Called {
         answer: reported(count, 0),
         plain: Plain {

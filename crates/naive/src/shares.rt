@@ -14,7 +14,7 @@ fn mark_if(wanted: bool, places: &mut [bool], at: usize) {
     }
 }
 
-fn is_marked(places: &[bool], at: usize) -> bool {
+pub fn is_marked(places: &[bool], at: usize) -> bool {
     if at < places.len() {
         return places[at];
     }

@@ -130,6 +130,13 @@ fn other_case(c: usize) -> usize {
     c
 }
 
+fn either(a: bool, b: bool) -> bool {
+    if a {
+        return true;
+    }
+    b
+}
+
 fn holds(set: &[bool], c: usize) -> bool {
     if c < set.len() {
         return set[c];
@@ -144,8 +151,8 @@ fn widen(set: &mut [bool], fold: u32) {
     }
     let mut c = 0;
     while c < set.len() {
-        let either = set[c] || holds(set, other_case(c));
-        set[c] = either;
+        let widened = either(set[c], holds(set, other_case(c)));
+        set[c] = widened;
         c += 1;
     }
 }
@@ -446,7 +453,7 @@ fn put_element(table: &mut [bool], first: usize, e: Element, mark: Mark)
     let n = e.positions;
     let mut k = 0;
     while k < n {
-        let optional = mark.optional || k < e.optional;
+        let optional = either(mark.optional, k < e.optional);
         positions::put_position(table, first + k, &set, optional, mark.repeats);
         k += 1;
     }

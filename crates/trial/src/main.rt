@@ -5,7 +5,6 @@
 //   * seed, space, number      so many cases drawn from the seed
 // It prints what it drew, each difference, and what was compared.
 ghost use Prim.Native.Nat.{_≤_};
-use comparing::report;
 
 // How often the text of a line is cut anew.
 const CUTS: usize = 20;
@@ -13,7 +12,7 @@ const CUTS: usize = 20;
 fn compare_often(rule: &[u8], fold: u32, raw: &[u8], random: &mut u64, tally: &mut [u64]) {
     let mut left = CUTS;
     while left > 0 {
-        comparing::compare(rule, fold, raw, random, tally);
+        cases::compare(rule, fold, raw, random, tally);
         left -= 1;
     }
 }
@@ -75,19 +74,19 @@ fn are(bytes: &[u8], hexadecimal: &[u8]) -> bool {
 }
 
 fn decodes_to(raw: &[u8], hexadecimal: &[u8]) -> bool {
-    let mut out = [0u8; comparing::TEXT];
+    let mut out = [0u8; cases::TEXT];
     let a = naive::decode(raw, &mut out);
-    let n = at_most(a.count, comparing::TEXT);
+    let n = at_most(a.count, cases::TEXT);
     are(&out[0..n], hexadecimal)
 }
 
 fn published(raw: &[u8], hexadecimal: &[u8], random: &mut u64, tally: &mut [u64]) {
-    let call = report::Call {
+    let call = reports::Call {
         taken: 0,
         given: raw.len(),
         list: 0,
     };
-    report::expect(
+    reports::expect(
         decodes_to(raw, hexadecimal),
         b"published reference",
         call,
@@ -103,11 +102,11 @@ fn published(raw: &[u8], hexadecimal: &[u8], random: &mut u64, tally: &mut [u64]
 
 fn draw_case(random: &mut u64, tally: &mut [u64]) {
     let mut rule = [0u8; 300];
-    let mut raw = [0u8; comparing::TEXT];
+    let mut raw = [0u8; cases::TEXT];
     let n = at_most(generated::rule(random, &mut rule), 300);
-    let m = at_most(generated::text(random, &mut raw), comparing::TEXT);
+    let m = at_most(generated::text(random, &mut raw), cases::TEXT);
     let fold = generated::up_to(random, 2) as u32;
-    comparing::compare(&rule[0..n], fold * 256, &raw[0..m], random, tally);
+    cases::compare(&rule[0..n], fold * 256, &raw[0..m], random, tally);
 }
 
 fn draw_cases(cases: usize, random: &mut u64, tally: &mut [u64]) {
@@ -121,9 +120,9 @@ fn draw_cases(cases: usize, random: &mut u64, tally: &mut [u64]) {
 fn draw_from(line: &[u8], random: &mut u64, tally: &mut [u64]) {
     let seed = lines::number_at(line, 0);
     let cases = lines::number_at(line, after(seed.next));
-    report::number(b"seed ", seed.value);
-    report::number(b", cases ", cases.value);
-    report::text(b"\n");
+    reports::number(b"seed ", seed.value);
+    reports::number(b", cases ", cases.value);
+    reports::text(b"\n");
     *random = seed.value as u64;
     draw_cases(cases.value, random, tally);
 }
@@ -181,36 +180,41 @@ fn all_lines(s: &[u8], tally: &mut [u64]) {
 // ---- counts
 
 fn count(name: &[u8], tally: &[u64], kind: usize) {
-    report::text(name);
-    io::print_decimal(1, report::entry(tally, kind));
-    report::text(b"\n");
+    reports::text(name);
+    io::print_decimal(1, reports::entry(tally, kind));
+    reports::text(b"\n");
 }
 
 fn refusals(tally: &[u64]) {
     let mut n = 1;
     while n <= 12 {
-        report::number(b"refused by ", n);
+        reports::number(b"refused by ", n);
         count(b": ", tally, n);
         n += 1;
     }
 }
 
+fn found(tally: &[u64]) {
+    count(b"references ", tally, reports::REFERENCES);
+    count(b"ends ", tally, reports::ENDS);
+    count(b"starts ", tally, reports::STARTS);
+    count(b"windows ", tally, reports::WINDOWS);
+}
+
 fn counts(tally: &[u64]) {
-    count(b"calls ", tally, report::CALLS);
-    count(b"accepted rules ", tally, report::ACCEPTED);
+    count(b"calls ", tally, reports::CALLS);
+    count(b"pieces ", tally, reports::PIECES);
+    count(b"starts shown ", tally, reports::SHOWN);
+    count(b"accepted rules ", tally, reports::ACCEPTED);
     refusals(tally);
-    count(b"pieces ", tally, report::PIECES);
-    count(b"references ", tally, report::REFERENCES);
-    count(b"ends ", tally, report::ENDS);
-    count(b"starts ", tally, report::STARTS);
-    count(b"windows ", tally, report::WINDOWS);
-    count(b"differences ", tally, report::DIFFERENCES);
+    found(tally);
+    count(b"differences ", tally, reports::DIFFERENCES);
 }
 
 fn main() {
     let mut room = io::large_buffer();
     let n = io::read_full(0, &mut room);
-    let mut tally = [0u64; report::TALLY];
+    let mut tally = [0u64; reports::TALLY];
     all_lines(&room[0..n], &mut tally);
     counts(&tally);
 }

@@ -15,6 +15,9 @@ abbrev μ-loop : tie.MeasureT-loop
 loop-holds : tie.Need-loop-holds Inv-loop μ-loop
 loop-holds c = search needs
 
+either-requires : tie.Need-either-requires Inv-loop μ-loop
+either-requires c κs = search needs
+
 add-put-position : tie.Need-add-put-position Inv-loop μ-loop
 add-put-position c = search needs
 
@@ -46,6 +49,7 @@ put-element-spec =
     Inv-loop
     μ-loop
     loop-holds
+    either-requires
     add-put-position
     slice-aggregate-put-position
     put-position-requires

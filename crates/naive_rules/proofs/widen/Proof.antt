@@ -18,14 +18,17 @@ returns c = search needs
 loop-holds : tie.Need-loop-holds Inv-loop μ-loop
 loop-holds c = search needs
 
-slice-read-if2 : tie.Need-slice-read-if2 Inv-loop μ-loop
-slice-read-if2 c = search needs
+slice-read-either : tie.Need-slice-read-either Inv-loop μ-loop
+slice-read-either c = search needs
 
 other-case-requires : tie.Need-other-case-requires Inv-loop μ-loop
 other-case-requires c κs = search needs
 
 holds-requires : tie.Need-holds-requires Inv-loop μ-loop
 holds-requires c κs = search needs
+
+either-requires : tie.Need-either-requires Inv-loop μ-loop
+either-requires c κs = search needs
 
 slice-write-set : tie.Need-slice-write-set Inv-loop μ-loop
 slice-write-set c = search needs
@@ -53,9 +56,10 @@ widen-spec =
     μ-loop
     returns
     loop-holds
-    slice-read-if2
+    slice-read-either
     other-case-requires
     holds-requires
+    either-requires
     slice-write-set
     add-c
     loop-less

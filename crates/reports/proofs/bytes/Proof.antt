@@ -1,9 +1,9 @@
--- `comparing::report/bytes` is safe, and keeps what its contract promises. Assumes nothing.
+-- `reports::bytes` is safe, and keeps what its contract promises. Assumes nothing.
 use Prim.Native.Nat.{_-_}
 use lib.ListN.{length}
 use borrow.Author.Needs.{needs}
-use Rattle.comparing.proofs.report.bytes.Statement.{statement}
-use Rattle.comparing.proofs.report.bytes.Tie as tie
+use Rattle.reports.proofs.bytes.Statement.{statement}
+use Rattle.reports.proofs.bytes.Tie as tie
 
 abbrev Inv-loop : tie.InvT-loop
 Inv-loop name s i₀ i = Unit

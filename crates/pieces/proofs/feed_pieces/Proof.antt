@@ -1,16 +1,19 @@
--- `comparing::scans/feed_pieces` is safe, and keeps what its contract promises. Assumes nothing.
+-- `pieces::feed_pieces` is safe, and keeps what its contract promises. Assumes nothing.
 use mathlib.Core.Path.{_≡_}
 use Prim.Native.Nat.{_-_}
 use lib.ListN.{length}
 use borrow.Author.Needs.{needs}
-use Rattle.comparing.proofs.scans.feed_pieces.Statement.{statement}
-use Rattle.comparing.proofs.scans.feed_pieces.Tie as tie
+use Rattle.pieces.proofs.feed_pieces.Statement.{statement}
+use Rattle.pieces.proofs.feed_pieces.Tie as tie
 
 abbrev Inv-loop : tie.InvT-loop
-Inv-loop r table kept₀ scan₀ raw random₀ tally₀ s₀ at₀ kept scan random tally s at = (length kept ≡ length kept₀) × (length scan ≡ length scan₀) × (length tally ≡ length tally₀)
+Inv-loop r table scan₀ raw random₀ tally₀ s₀ at₀ scan random tally s at = (length scan ≡ length scan₀) × (length tally ≡ length tally₀)
 
 abbrev μ-loop : tie.MeasureT-loop
-μ-loop r table kept₀ scan₀ raw random₀ tally₀ s₀ at₀ kept scan random tally s at = length raw - at
+μ-loop r table scan₀ raw random₀ tally₀ s₀ at₀ scan random tally s at = length raw - at
+
+begun-requires : tie.Need-begun-requires Inv-loop μ-loop
+begun-requires c κs = search needs
 
 loop-holds : tie.Need-loop-holds Inv-loop μ-loop
 loop-holds c = search needs
@@ -45,6 +48,9 @@ part-feed-piece-end c = search needs
 feed-piece-requires : tie.Need-feed-piece-requires Inv-loop μ-loop
 feed-piece-requires c κs = search needs
 
+add-requires : tie.Need-add-requires Inv-loop μ-loop
+add-requires c κs = search needs
+
 loop-less : tie.Need-loop-less Inv-loop μ-loop
 loop-less c = search needs
 
@@ -57,9 +63,6 @@ same-length c = search needs
 same-length-2 : tie.Need-same-length-2 Inv-loop μ-loop
 same-length-2 c = search needs
 
-same-length-3 : tie.Need-same-length-3 Inv-loop μ-loop
-same-length-3 c = search needs
-
 returns : tie.Need-returns Inv-loop μ-loop
 returns c = search needs
 
@@ -69,6 +72,7 @@ feed-pieces-spec =
     (tie.spec
     Inv-loop
     μ-loop
+    begun-requires
     loop-holds
     up-to-requires
     sub-at-most
@@ -80,9 +84,9 @@ feed-pieces-spec =
     part-feed-piece-start
     part-feed-piece-end
     feed-piece-requires
+    add-requires
     loop-less
     loop-again
     same-length
     same-length-2
-    same-length-3
     returns)

@@ -1,13 +1,15 @@
-// A scan of a case's text in pieces that are drawn, with refused calls in between.
-use super::calls;
-use super::calls::Compared;
-use super::calls::at_most;
-use super::report;
-use super::report::Call;
+// A scan of a case's text in pieces that are drawn, with refused calls in between, compared call by call
+// with the plain scan of `naive`.
+ghost use Prim.Native.Nat.{_≤_};
+ghost use lib.ListN.{length};
+use comparing::calls;
+use comparing::calls::Compared;
+use comparing::calls::at_most;
 use generated::one_in;
 use generated::up_to;
 use naive::Plain;
 use naive_rules::Rule;
+use reports::Call;
 
 const LIMIT: usize = 4_294_967_295;
 
@@ -16,6 +18,21 @@ struct State {
     plain: Plain,
     same: bool,
     call: Call,
+}
+
+fn begun() -> State {
+    State {
+        plain: Plain {
+            taken: 0,
+            finished: false,
+        },
+        same: true,
+        call: Call {
+            taken: 0,
+            given: 0,
+            list: 0,
+        },
+    }
 }
 
 fn after(s: State, c: Compared, call: Call) -> State {
@@ -35,22 +52,26 @@ fn after(s: State, c: Compared, call: Call) -> State {
     }
 }
 
+// Feeds the last bytes of p, those from a place on, with a list of n entries.
 fn feed(
     s: State,
     r: Rule,
     table: &[bool],
-    kept: &mut [u8],
     scan: &mut [u64],
-    piece: &[u8],
+    p: &[u8],
+    from: usize,
     n: usize,
     tally: &mut [u64],
-) -> State {
+) -> State
+    requires { ⌜ from ≤ length (now p) ⌝ }
+{
+    let plain = s.plain;
     let call = Call {
-        taken: s.plain.taken,
-        given: piece.len(),
+        taken: plain.taken,
+        given: p.len() - from,
         list: n,
     };
-    let c = calls::feeds(scan, r, table, s.plain, kept, piece, n, tally);
+    let c = calls::feeds(scan, r, table, plain, p, &p[from..], n, tally);
     after(s, c, call)
 }
 
@@ -58,17 +79,18 @@ fn finish(
     s: State,
     r: Rule,
     table: &[bool],
-    kept: &[u8],
     scan: &mut [u64],
+    p: &[u8],
     n: usize,
     tally: &mut [u64],
 ) -> State {
+    let plain = s.plain;
     let call = Call {
-        taken: s.plain.taken,
+        taken: plain.taken,
         given: 0,
         list: n,
     };
-    let c = calls::finishes(scan, r, table, s.plain, kept, n, tally);
+    let c = calls::finishes(scan, r, table, plain, p, n, tally);
     after(s, c, call)
 }
 
@@ -77,7 +99,6 @@ fn feed_at_limit(
     s: State,
     r: Rule,
     table: &[bool],
-    kept: &mut [u8],
     scan: &[u64],
     piece: &[u8],
     tally: &mut [u64],
@@ -88,7 +109,7 @@ fn feed_at_limit(
         taken: LIMIT,
         finished: false,
     };
-    let c = calls::feeds(&mut full, r, table, most, kept, piece, calls::LIST, tally);
+    let c = calls::feeds(&mut full, r, table, most, piece, piece, calls::LIST, tally);
     let call = Call {
         taken: LIMIT,
         given: piece.len(),
@@ -105,9 +126,11 @@ fn feed_at_limit(
     )
 }
 
-// A list for so many bytes, with `more` entries beside those.
-fn list_for(piece: &[u8], more: usize) -> usize {
-    at_most(piece.len(), calls::LIST) + at_most(more, calls::LIST)
+// A list for the bytes of p from a place on, with `more` entries beside.
+fn list_for(p: &[u8], from: usize, more: usize) -> usize
+    requires { ⌜ from ≤ length (now p) ⌝ }
+{
+    at_most(p.len() - from, calls::LIST) + at_most(more, calls::LIST)
 }
 
 // Now and then a call that is refused, or that adds nothing.
@@ -115,23 +138,34 @@ fn call_between(
     s: State,
     r: Rule,
     table: &[bool],
-    kept: &mut [u8],
     scan: &mut [u64],
-    piece: &[u8],
+    p: &[u8],
+    from: usize,
     random: &mut u64,
     tally: &mut [u64],
-) -> State {
+) -> State
+    requires { ⌜ from ≤ length (now p) ⌝ }
+{
     if one_in(random, 6) {
-        return feed(s, r, table, kept, scan, piece, list_for(piece, 8), tally);
+        return feed(s, r, table, scan, p, from, list_for(p, from, 8), tally);
     }
     if one_in(random, 8) {
-        return finish(s, r, table, kept, scan, 8, tally);
+        return finish(s, r, table, scan, &p[0..from], 8, tally);
     }
     if one_in(random, 8) {
-        return feed(s, r, table, kept, scan, b"", 8 + up_to(random, 1), tally);
+        return feed(
+            s,
+            r,
+            table,
+            scan,
+            &p[0..from],
+            from,
+            8 + up_to(random, 1),
+            tally,
+        );
     }
     if one_in(random, 20) {
-        return feed_at_limit(s, r, table, kept, scan, piece, tally);
+        return feed_at_limit(s, r, table, scan, &p[from..], tally);
     }
     s
 }
@@ -140,34 +174,34 @@ fn feed_piece(
     before: State,
     r: Rule,
     table: &[bool],
-    kept: &mut [u8],
     scan: &mut [u64],
-    piece: &[u8],
+    p: &[u8],
+    from: usize,
     random: &mut u64,
     tally: &mut [u64],
-) -> State {
-    let s = call_between(before, r, table, kept, scan, piece, random, tally);
-    let n = list_for(piece, 9 + up_to(random, 2));
-    report::add(tally, report::PIECES, 1);
-    feed(s, r, table, kept, scan, piece, n, tally)
+) -> State
+    requires { ⌜ from ≤ length (now p) ⌝ }
+{
+    let s = call_between(before, r, table, scan, p, from, random, tally);
+    let n = list_for(p, from, 9 + up_to(random, 2));
+    feed(s, r, table, scan, p, from, n, tally)
 }
 
 fn feed_pieces(
-    before: State,
     r: Rule,
     table: &[bool],
-    kept: &mut [u8],
     scan: &mut [u64],
     raw: &[u8],
     random: &mut u64,
     tally: &mut [u64],
 ) -> State {
-    let mut s = before;
+    let mut s = begun();
     let mut at = 0;
     while at < raw.len() {
         let more = at_most(up_to(random, 10), raw.len() - at - 1);
         let e = at + 1 + more;
-        s = feed_piece(s, r, table, kept, scan, &raw[at..e], random, tally);
+        s = feed_piece(s, r, table, scan, &raw[0..e], at, random, tally);
+        reports::add(tally, reports::PIECES, 1);
         at = e;
     }
     s
@@ -178,27 +212,26 @@ fn calls_after(
     s: State,
     r: Rule,
     table: &[bool],
-    kept: &mut [u8],
     scan: &mut [u64],
+    raw: &[u8],
     random: &mut u64,
     tally: &mut [u64],
 ) -> State {
-    let fed = feed(s, r, table, kept, scan, b"a", up_to(random, 10), tally);
-    finish(fed, r, table, kept, scan, up_to(random, 9), tally)
+    let fed = feed(s, r, table, scan, raw, 0, up_to(random, 10), tally);
+    finish(fed, r, table, scan, raw, up_to(random, 9), tally)
 }
 
-// The finish, and calls after it.
 fn finish_text(
     s: State,
     r: Rule,
     table: &[bool],
-    kept: &mut [u8],
     scan: &mut [u64],
+    raw: &[u8],
     random: &mut u64,
     tally: &mut [u64],
 ) -> State {
-    let finished = finish(s, r, table, kept, scan, 9 + up_to(random, 2), tally);
-    calls_after(finished, r, table, kept, scan, random, tally)
+    let finished = finish(s, r, table, scan, raw, 9 + up_to(random, 2), tally);
+    calls_after(finished, r, table, scan, raw, random, tally)
 }
 
 fn scan_text(
@@ -209,21 +242,8 @@ fn scan_text(
     random: &mut u64,
     tally: &mut [u64],
 ) -> State {
-    let mut kept = [0u8; calls::LIST];
-    let begun = State {
-        plain: Plain {
-            taken: 0,
-            finished: false,
-        },
-        same: true,
-        call: Call {
-            taken: 0,
-            given: 0,
-            list: 0,
-        },
-    };
-    let fed = feed_pieces(begun, r, table, &mut kept, scan, raw, random, tally);
-    finish_text(fed, r, table, &mut kept, scan, random, tally)
+    let fed = feed_pieces(r, table, scan, raw, random, tally);
+    finish_text(fed, r, table, scan, raw, random, tally)
 }
 
 // An accepted rule over the text.
@@ -239,23 +259,5 @@ pub fn compare(
     let mut scan = [0u64; scan_values::LENGTH];
     scan::open(rule, fold, &mut scan);
     let s = scan_text(r, table, &mut scan, raw, random, tally);
-    report::expect(s.same, b"scan call", s.call, rule, fold, raw, tally);
-}
-
-// A scan value of zeros is impossible.
-pub fn compare_impossible(rule: &[u8], fold: u32, raw: &[u8], tally: &mut [u64]) {
-    let call = Call {
-        taken: 0,
-        given: raw.len(),
-        list: 0,
-    };
-    report::expect(
-        calls::refuses_zeros(raw, tally),
-        b"a scan value of zeros",
-        call,
-        rule,
-        fold,
-        raw,
-        tally,
-    );
+    reports::expect(s.same, b"scan call", s.call, rule, fold, raw, tally);
 }

@@ -13,11 +13,13 @@ pub const STARTS: usize = 16;
 
 pub const WINDOWS: usize = 17;
 
-pub const CALLS: usize = 18;
+pub const SHOWN: usize = 18;
 
-pub const DIFFERENCES: usize = 19;
+pub const CALLS: usize = 19;
 
-pub const TALLY: usize = 20;
+pub const DIFFERENCES: usize = 20;
+
+pub const TALLY: usize = 21;
 
 // Differences that are printed; the rest are counted.
 const PRINTED: u64 = 10;
