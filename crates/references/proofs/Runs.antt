@@ -53,7 +53,7 @@ module _ (s : List ℕ) (i k : ℕ) where
     pub look-over : k ≤ j → Looked s i k z
     look-over h = let f = g .few in let q : j ≡ k = omega arith in rw q at (g .look)
 
--- ---- `skim`, `run_length`
+-- ---- runs
 
 -- one byte that is not `&`
 one-plain : (s : List ℕ) (i : ℕ) → i < length s → (getD s i 0 ≡ 38 → ⊥) → T (all notAmp (take 1 (drop i s)))
