@@ -21,7 +21,7 @@ use Rattle.rules.specs.declared.Prepared.{Prepared}
 use Rattle.rules.specs.Preparing.{preparedBy, prepared, Prepares}
 use Rattle.rules.specs.Tables.{Fillable, Filled}
 use Rattle.rules.proofs.Encoded.{is-accepted, may-fill, positions-are, shortest-is, encodes-forwards, encodes-reversed}
-use Rattle.windows.specs.Reading.{Tables}
+use Rattle.windows.specs.Reading.{Tables, FirstIs}
 use Rattle.searches.specs.declared.Rule.{Rule}
 use Rattle.searches.specs.declared.Found.{Found}
 use Rattle.searches.specs.Searching.{RuleFits, RuleOf, SearchFits, SearchedIs}
@@ -97,18 +97,21 @@ module _ (flag : ℕ) (rule : List ℕ) (p : Prepared) (text listed : ℕ) (r : 
           onward = onward flag rule p hp z q x forward f;
         }
 
-    pub rule-fits : RuleFits forward reversed q
-    rule-fits =
+    pub back-fits : Tables reversed (q .reversed)
+    back-fits = let n = r .prepares .few in let back = x .back-top in record { long = b .long; top = omega arith }
+
+    pub rule-fits : {first : List ℕ} → FirstIs reversed (q .reversed) first → RuleFits forward reversed first q
+    rule-fits i =
         let m = rule-of in
         let s : q .shortest ≡ shortest (rulePositions (foldFlag flag) rule) = m .mirrors .size in
         let o = m .mirrors .some in
         let n = r .prepares .few in
-        let back = x .back-top in
         let w = shortest-length (rulePositions (foldFlag flag) rule) in
         record {
           on = on-fits flag rule p (r .prepares) (r .accepted) q x forward f;
           backs = record {
-            back = record { long = b .long; top = omega arith };
+            back = back-fits;
+            firsts = i;
             some = omega arith;
             small = omega (arith, w, positions-are flag rule p (r .prepares) (r .accepted));
           };

@@ -75,7 +75,10 @@ fn search_accepted(rule: &[u8], fold: u32, p: Prepared, text: &[u8], starts: &mu
     rules::tables::fill(rule, fold, total, &mut forward, false);
     let mut reversed = [0u64; 256];
     rules::tables::fill(rule, fold, total, &mut reversed, true);
-    let f = searches::search_tables(&forward, &reversed, prepared, text, starts);
+    let mut first = [0u64; 256];
+    let back = prepared.reversed;
+    windows::first_steps(&reversed, back, &mut first);
+    let f = searches::search_tables(&forward, &reversed, &first, prepared, text, starts);
     let count = f.count as u32;
     let windows = f.windows as u32;
     answer(0, 0, count, windows)

@@ -11,7 +11,7 @@ use Rattle.model.specs.WindowSearch.{Inhabited, windowAt, shift, windowsFrom, w
 use Rattle.model.specs.WindowSearch as WindowSearch
 use Rattle.words.specs.Masks.{Encodes}
 use Rattle.stepping.specs.declared.Masks.{Masks}
-use Rattle.windows.specs.Reading.{Tables}
+use Rattle.windows.specs.Reading.{Tables, FirstIs}
 use Rattle.searches.specs.declared.Rule.{Rule}
 use Rattle.searches.specs.declared.Tried.{Tried}
 use Rattle.searches.specs.declared.Tried.the-variants.{Start, Empty, Spent}
@@ -21,14 +21,15 @@ use Rattle.searches.specs.declared.Span.{Span}
 
 -- ---- a prepared rule
 
-pub record BackFits (reversed : List ℕ) (rule : Rule) : Type 0 where
+pub record BackFits (reversed first : List ℕ) (rule : Rule) : Type 0 where
   pub back : Tables reversed (rule .reversed)
+  pub firsts : FirstIs reversed (rule .reversed) first
   pub some : 1 ≤ rule .shortest
   pub small : rule .shortest < 2 ^ 32
 
-pub record RuleFits (forward reversed : List ℕ) (rule : Rule) : Type 0 where
+pub record RuleFits (forward reversed first : List ℕ) (rule : Rule) : Type 0 where
   pub on : Tables forward (rule .forward)
-  pub backs : BackFits reversed rule
+  pub backs : BackFits reversed first rule
 
 -- Table and masks are those of the positions, for each direction.
 pub record Mirrors (ps : List Position) (reversed : List ℕ) (rule : Rule) : Type 0 where

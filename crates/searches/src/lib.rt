@@ -86,18 +86,19 @@ fn checked(forward: &[u64], m: Masks, text: &[u8], w: usize, spent: usize, shift
 fn try_window(
     forward: &[u64],
     reversed: &[u64],
+    first: &[u64],
     rule: Rule,
     text: &[u8],
     w: usize,
     spent: usize,
 ) -> Tried
-    requires { ⌜ RuleFits (now forward) (now reversed) rule ⌝ }
+    requires { ⌜ RuleFits (now forward) (now reversed) (now first) rule ⌝ }
     requires { ⌜ w + rule .shortest ≤ length (now text) ⌝ }
     requires { ⌜ Spends (length (now text)) w spent ⌝ }
     ensures { λ x. ⌜ TriedIs (now (forward .entry)) (now (reversed .entry)) rule (now (text .entry)) w x ⌝ }
 {
     let back = rule.reversed;
-    let seen = windows::window_shift(reversed, back, rule.shortest, text, w);
+    let seen = windows::window_shift(reversed, first, back, rule.shortest, text, w);
     if seen.hit {
         let on = rule.forward;
         return checked(forward, on, text, w, spent, seen.shift);
@@ -106,8 +107,8 @@ fn try_window(
 }
 
 // How many windows there are from window w on. Nothing is verified.
-fn count_windows(reversed: &[u64], rule: Rule, text: &[u8], w: usize) -> usize
-    requires { ⌜ BackFits (now reversed) rule ⌝ }
+fn count_windows(reversed: &[u64], first: &[u64], rule: Rule, text: &[u8], w: usize) -> usize
+    requires { ⌜ BackFits (now reversed) (now first) rule ⌝ }
     requires { ⌜ w ≤ length (now text) ⌝ }
     requires { ⌜ length (now text) < 2 ^ 32 ⌝ }
     ensures { λ k. ⌜ TriesIs (now (reversed .entry)) rule (now (text .entry)) w k ⌝ }
@@ -122,7 +123,7 @@ fn count_windows(reversed: &[u64], rule: Rule, text: &[u8], w: usize) -> usize
             continue;
         }
         let back = rule.reversed;
-        let seen = windows::window_shift(reversed, back, rule.shortest, text, w);
+        let seen = windows::window_shift(reversed, first, back, rule.shortest, text, w);
         w += seen.shift;
         k += 1;
     }
@@ -131,8 +132,15 @@ fn count_windows(reversed: &[u64], rule: Rule, text: &[u8], w: usize) -> usize
 
 // Tries the windows one after another, and writes the starts into the list from its front, until the
 // windows or the budget are at their end.
-fn verified(forward: &[u64], reversed: &[u64], rule: Rule, text: &[u8], starts: &mut [u32]) -> Part
-    requires { ⌜ RuleFits (now forward) (now reversed) rule ⌝ }
+fn verified(
+    forward: &[u64],
+    reversed: &[u64],
+    first: &[u64],
+    rule: Rule,
+    text: &[u8],
+    starts: &mut [u32],
+) -> Part
+    requires { ⌜ RuleFits (now forward) (now reversed) (now first) rule ⌝ }
     requires { ⌜ length (now text) < 2 ^ 32 ⌝ }
     requires { ⌜ length (now text) ≤ length (now starts) ⌝ }
     ensures { λ p. ⌜ PartIs (now (forward .entry)) (now (reversed .entry)) rule (now (text .entry)) (now (starts .entry)) p (now (starts .exit)) ⌝ }
@@ -149,7 +157,7 @@ fn verified(forward: &[u64], reversed: &[u64], rule: Rule, text: &[u8], starts: 
             w += rule.shortest;
             continue;
         }
-        let found = try_window(forward, reversed, rule, text, w, spent);
+        let found = try_window(forward, reversed, first, rule, text, w, spent);
         match found {
             Tried::Start(shift, read) => {
                 starts[count] = w as u32;
@@ -179,25 +187,26 @@ fn verified(forward: &[u64], reversed: &[u64], rule: Rule, text: &[u8], starts: 
     }
 }
 
-// The whole search. Where verifying came to its end before the windows did, the rest of the starts comes
-// from two readings backwards, and the rest of the windows is only counted; where it did not, what is
-// left is shorter than a window.
+// The whole search; `first` has what a window's last byte leaves. Where verifying came to its end
+// before the windows did, the rest of the starts comes from two readings backwards, and the rest of the
+// windows is only counted; where it did not, what is left is shorter than a window.
 pub fn search_tables(
     forward: &[u64],
     reversed: &[u64],
+    first: &[u64],
     rule: Rule,
     text: &[u8],
     starts: &mut [u32],
 ) -> Found
-    requires { ⌜ RuleFits (now forward) (now reversed) rule ⌝ }
+    requires { ⌜ RuleFits (now forward) (now reversed) (now first) rule ⌝ }
     requires { ⌜ SearchFits (length (now text)) (length (now starts)) ⌝ }
     ensures { λ r. ⌜ SearchedIs (now (forward .entry)) (now (reversed .entry)) rule (now (text .entry)) (now (starts .entry)) r (now (starts .exit)) ⌝ }
 {
-    let p = verified(forward, reversed, rule, text, starts);
+    let p = verified(forward, reversed, first, rule, text, starts);
     let back = rule.reversed;
     let next = p.next;
     let k = windows::write_rest(reversed, back, text, next, starts, p.count);
-    let z = count_windows(reversed, rule, text, next);
+    let z = count_windows(reversed, first, rule, text, next);
     let count = p.count + k;
     let tried = p.windows + z;
     Found {

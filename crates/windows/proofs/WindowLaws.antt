@@ -1,23 +1,18 @@
--- The loop of `window_shift`: what the rest of the window would make of the present values is what the whole window makes of the first ones. On plain values. Assumes nothing.
-use mathlib.Core.Path.{_≡_, refl, sym, _∙_}
+-- A window read backwards: what the rest of the window would make of the present values is what the whole window makes of the first ones. On plain values. Assumes nothing.
+use mathlib.Core.Path.{_≡_, refl, sym, ap, _∙_}
 use mathlib.Core.Bool.{Bool, true, false, cond}
 use mathlib.Core.List.{List}
 use Prim.Native.Nat.{ℕ, zero, suc, _+_, _-_, _≤_, _<_}
 use native.Mathlib.Omega.{arith}
-use lib.ListN.{length, getD}
+use native.Mathlib.Decide.{decLt}
+use lib.ListN.{length, getD, set, length-set}
+use lib.Seq.{getD-set-same, getD-set-other}
 use lib.Dec.{eqb}
 use borrow.Author.Tests.{eq-eqb, ne-eqb}
 use Rattle.words.specs.ForwardStep.{topBit}
 use Rattle.stepping.specs.declared.Masks.{Masks}
 use Rattle.stepping.specs.Stepping.{stepN}
-use Rattle.windows.specs.Reading.{every, stepAt, seenN, Window, SeenIs}
-
--- the invariant: bytes j .. 1 are still to be read, and then byte 0
-pub record Looking (t : List ℕ) (m : Masks) (size : ℕ) (text : List ℕ) (w d last j : ℕ) : Type 0 where
-  pub below : j < size
-  pub moves : 1 ≤ last
-  pub short : last ≤ size
-  pub rest : seenN t m text w d last j ≡ seenN t m text w every size (size - 1)
+use Rattle.windows.specs.Reading.{every, stepAt, seenN, Window, FirstIs, Looking, SeenIs}
 
 module _ (t : List ℕ) (m : Masks) (text : List ℕ) (w d last : ℕ) where
   -- one turn of the definition
@@ -73,3 +68,51 @@ module _ (t : List ℕ) (m : Masks) (size : ℕ) (text : List ℕ) (w : ℕ) whe
         let j0 : j ≡ 0 = omega arith in
         let q : seenN t m text w d last 0 ≡ seenN t m text w every size (size - 1) = rw j0 at (g .rest) in
         record { is = rw (ep, es, eb) q; moves = g .moves; short = g .short }
+
+-- ---- `window_shift`: the last byte, by the table of first steps
+
+module _ (t : List ℕ) (m : Masks) (size : ℕ) (text : List ℕ) (w : ℕ) (f : Window size w (length text)) {first : List ℕ} (fs : FirstIs t m first) {b d : ℕ}
+    (eb : b ≡ getD text (w + (size - 1)) 0) (small : b < 256) (ed : d ≡ getD first b 0) where
+  stepped : d ≡ stepN m 0 every (getD t b 0)
+  stepped = ed ∙ fs .is b small
+
+  -- a window of one byte
+  pub first-alone : (q : Bool) → size - 1 ≡ 0 → q ≡ topBit (m .top) d → SeenIs t m size text w (record { shift = size; hit = q })
+  first-alone q z e =
+      let k : w + (size - 1) ≡ w = omega arith in
+      look-over t m size text w (look-begun t m size text w f) b d q (omega arith) (eb ∙ ap (λ (i : ℕ). getD text i 0) k) stepped e
+
+  module _ (n : size - 1 ≡ 0 → ⊥) where
+    pub first-emptied : d ≡ 0 → SeenIs t m size text w (record { shift = size; hit = false })
+    first-emptied z = look-emptied t m size text w (look-begun t m size text w f) (omega arith) eb stepped z
+
+    module _ (z : d ≡ 0 → ⊥) where
+      pub first-begins : {q : Bool} → q ≡ topBit (m .top) d → q ≡ true → Looking t m size text w d (size - 1) (size - 1 - 1)
+      first-begins e k = look-begins t m size text w (look-begun t m size text w f) (omega arith) eb stepped z e k
+
+      pub first-passed : {q : Bool} → q ≡ topBit (m .top) d → q ≡ false → Looking t m size text w d size (size - 1 - 1)
+      first-passed e k = look-passed t m size text w (look-begun t m size text w f) (omega arith) eb stepped z e k
+
+-- ---- `first_steps`
+
+pub record Stepping (t : List ℕ) (m : Masks) (first : List ℕ) (n : ℕ) : Type 0 where
+  pub long : length first ≡ 256
+  pub few : n ≤ 256
+  pub is : (c : ℕ) → c < n → getD first c 0 ≡ stepN m 0 every (getD t c 0)
+
+module _ (t : List ℕ) (m : Masks) where
+  pub firsts-begun : (first : List ℕ) → length first ≡ 256 → Stepping t m first 0
+  firsts-begun first l = record { long = l; few = omega arith; is = λ c h. absurd (omega arith) }
+
+  module _ {first : List ℕ} {n : ℕ} (g : Stepping t m first n) where
+    pub firsts-on : n < 256 → {d : ℕ} → d ≡ stepN m 0 every (getD t n 0) → Stepping t m (set first n d) (n + 1)
+    firsts-on h {d} e = record { long = length-set first n d ∙ g .long; few = omega arith; is = λ c l. go c l (decLt c n) }
+      where
+        go : (c : ℕ) → c < n + 1 → Dec (c < n) → getD (set first n d) c 0 ≡ stepN m 0 every (getD t c 0)
+        go c l (yes p) = getD-set-other first n c d 0 (omega arith) ∙ g .is c p
+        go c l (no p) =
+            let q : c ≡ n = omega arith in
+            rw q (getD-set-same first n d 0 (omega (arith, g .long)) ∙ e)
+
+    pub firsts-over : 256 ≤ n → FirstIs t m first
+    firsts-over h = record { long = g .long; is = λ c l. g .is c (omega arith) }

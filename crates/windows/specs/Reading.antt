@@ -58,6 +58,18 @@ pub record Window (size w len : ℕ) : Type 0 where
   pub some : 1 ≤ size
   pub fits : w + size ≤ len
 
+-- for each byte, the states after it from all states: what a window's last byte leaves
+pub record FirstIs (t : List ℕ) (m : Masks) (first : List ℕ) : Type 0 where
+  pub long : length first ≡ 256
+  pub is : (c : ℕ) → c < 256 → getD first c 0 ≡ stepN m 0 every (getD t c 0)
+
+-- Within window w the bytes j .. 1 are still to be read, and then byte 0: what they make of d and `last` is what the whole window makes of all states.
+pub record Looking (t : List ℕ) (m : Masks) (size : ℕ) (text : List ℕ) (w d last j : ℕ) : Type 0 where
+  pub below : j < size
+  pub moves : 1 ≤ last
+  pub short : last ≤ size
+  pub rest : seenN t m text w d last j ≡ seenN t m text w every size (size - 1)
+
 pub record SeenIs (t : List ℕ) (m : Masks) (size : ℕ) (text : List ℕ) (w : ℕ) (x : Seen) : Type 0 where
   pub is : x ≡ seenN t m text w every size (size - 1)
   pub moves : 1 ≤ x .shift

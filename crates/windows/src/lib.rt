@@ -1,9 +1,10 @@
 // The window search's readings of a text, over prepared tables: a window backwards, a start forwards,
 // and all the text backwards. Each contract is an equation with a definition of `specs/Reading.antt`,
 // for any table and masks.
+ghost use mathlib.Core.Path.{_≡_};
 ghost use Prim.Native.Nat.{_+_, _≤_, _<_};
 ghost use lib.ListN.{length};
-ghost use Rattle.windows.specs.Reading.{Tables, Window, SeenIs, EndIs, CountIs, WriteFine, WroteIs, RestFine, WrittenIs};
+ghost use Rattle.windows.specs.Reading.{Tables, Window, FirstIs, Looking, SeenIs, EndIs, CountIs, WriteFine, WroteIs, RestFine, WrittenIs};
 use stepping::Masks;
 
 // What a window says: the published shift, and whether its bytes begin a string that the rule admits.
@@ -20,16 +21,39 @@ pub enum End {
     Open,
 }
 
-// Reads window w of `size` bytes from its last byte backwards, with the reversed table and masks, until
-// no state is left.
-pub fn window_shift(reversed: &[u64], m: Masks, size: usize, text: &[u8], w: usize) -> Seen
+// The states after a window's last byte, for each byte, with the reversed table and masks.
+pub fn first_steps(reversed: &[u64], m: Masks, first: &mut [u64])
+    requires { ⌜ Tables (now reversed) m ⌝ }
+    requires { ⌜ length (now first) ≡ 256 ⌝ }
+    ensures { λ r. ⌜ FirstIs (now (reversed .entry)) m (now (first .exit)) ⌝ }
+{
+    let mut c = 0;
+    while c < 256 {
+        first[c] = stepping::step(0xffff_ffff_ffff_ffff, reversed[c], 0, m);
+        c += 1;
+    }
+}
+
+// Reads on in window w, byte j and those before it, from the states d; `last` is the shift so far. It
+// ends early where no state is left.
+fn read_back(
+    reversed: &[u64],
+    m: Masks,
+    size: usize,
+    text: &[u8],
+    w: usize,
+    d: u64,
+    last: usize,
+    j: usize,
+) -> Seen
     requires { ⌜ Tables (now reversed) m ⌝ }
     requires { ⌜ Window size w (length (now text)) ⌝ }
+    requires { ⌜ Looking (now reversed) m size (now text) w d last j ⌝ }
     ensures { λ x. ⌜ SeenIs (now (reversed .entry)) m size (now (text .entry)) w x ⌝ }
 {
-    let mut d = 0xffff_ffff_ffff_ffff;
-    let mut last = size;
-    let mut j = size - 1;
+    let mut d = d;
+    let mut last = last;
+    let mut j = j;
     while 0 < j {
         let c = looks::index(text[w + j]);
         d = stepping::step(d, reversed[c], 0, m);
@@ -52,6 +76,44 @@ pub fn window_shift(reversed: &[u64], m: Masks, size: usize, text: &[u8], w: usi
         shift: last,
         hit: hit,
     }
+}
+
+// Reads window w of `size` bytes from its last byte backwards, with the reversed table and masks, until
+// no state is left.
+pub fn window_shift(
+    reversed: &[u64],
+    first: &[u64],
+    m: Masks,
+    size: usize,
+    text: &[u8],
+    w: usize,
+) -> Seen
+    requires { ⌜ Tables (now reversed) m ⌝ }
+    requires { ⌜ Window size w (length (now text)) ⌝ }
+    requires { ⌜ FirstIs (now reversed) m (now first) ⌝ }
+    ensures { λ x. ⌜ SeenIs (now (reversed .entry)) m size (now (text .entry)) w x ⌝ }
+{
+    let j = size - 1;
+    let c = looks::index(text[w + j]);
+    let d = first[c];
+    let begins = words::reports(d, m.top);
+    if j == 0 {
+        return Seen {
+            shift: size,
+            hit: begins,
+        };
+    }
+    if d == 0 {
+        return Seen {
+            shift: size,
+            hit: false,
+        };
+    }
+    let next = j - 1;
+    if begins {
+        return read_back(reversed, m, size, text, w, d, j, next);
+    }
+    read_back(reversed, m, size, text, w, d, size, next)
 }
 
 // Reads forward from the start s, with the forward table and masks, up to the place `stop`.

@@ -11,10 +11,10 @@ use Rattle.looks.proofs.index.Reads as index-reads
 use Rattle.windows.proofs.window_shift.Reads as window-shift-reads
 
 abbrev Inv-loop : tie.InvT-loop
-Inv-loop reversed rule text w w₀ k₀ w' k = Trying reversed rule text w w' k
+Inv-loop reversed first rule text w w₀ k₀ w' k = Trying reversed rule text w w' k
 
 abbrev μ-loop : tie.MeasureT-loop
-μ-loop reversed rule text w w₀ k₀ w' k = length text - w'
+μ-loop reversed first rule text w w₀ k₀ w' k = length text - w'
 
 loop-holds : tie.Need-loop-holds Inv-loop μ-loop
 loop-holds c = search try-begun

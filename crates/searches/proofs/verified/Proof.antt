@@ -12,10 +12,10 @@ use Rattle.looks.proofs.index.Reads as index-reads
 use Rattle.searches.proofs.try_window.Reads as try-window-reads
 
 abbrev Inv-loop : tie.InvT-loop
-Inv-loop forward reversed rule text starts₀ w₀ count₀ tried₀ spent₀ starts w count tried spent = Going forward reversed rule text starts₀ starts w count tried spent
+Inv-loop forward reversed first rule text starts₀ w₀ count₀ tried₀ spent₀ starts w count tried spent = Going forward reversed rule text starts₀ starts w count tried spent
 
 abbrev μ-loop : tie.MeasureT-loop
-μ-loop forward reversed rule text starts₀ w₀ count₀ tried₀ spent₀ starts w count tried spent = length text - w
+μ-loop forward reversed first rule text starts₀ w₀ count₀ tried₀ spent₀ starts w count tried spent = length text - w
 
 loop-holds : tie.Need-loop-holds Inv-loop μ-loop
 loop-holds c = search begun
@@ -54,7 +54,7 @@ loop-again : tie.Need-loop-again Inv-loop μ-loop
 loop-again c =
     let i = c .before .before .before in
     let l = c .before .before .before .before .before .before .before .before in
-    let s = c .before .before .before .before .before .before .before .before .before .before .before .before .before in
+    let s = c .before .before .before .before .before .before .before .before .before .before .before .before .before .before in
     skipped _ _ _ _ _ (l .loop .inv) (c .before .before .before .before .before .before .if1 .taken) (s .pre .0 .backs .some) (i .index .ensures .0) (c .before .if2 .taken)
 
 try-window-requires : tie.Need-try-window-requires Inv-loop μ-loop

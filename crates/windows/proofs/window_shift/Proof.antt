@@ -1,111 +1,71 @@
 -- `windows::window_shift` meets its contract. Its laws are in this crate's `proofs/`; `search LAW` finds a law's premises in `c`. Assumes nothing.
-use Rattle.windows.proofs.WindowLaws.{Looking, look-begun, look-emptied, look-begins, look-passed, look-over}
+use Rattle.windows.proofs.WindowLaws.{first-alone, first-emptied, first-begins, first-passed}
 use borrow.Author.Needs.{needs}
 use Rattle.windows.proofs.window_shift.Statement.{statement}
 use Rattle.windows.proofs.window_shift.Tie as tie
 use Rattle.windows.proofs.window_shift.Reads as reads
 use Rattle.windows.proofs.window_shift.Lts as lts
 use Rattle.looks.proofs.index.Reads as index-reads
-use Rattle.stepping.proofs.step.Reads as step-reads
+use Rattle.windows.proofs.read_back.Reads as read-back-reads
 use Rattle.words.proofs.reports.Reads as reports-reads
 
-abbrev Inv-loop : tie.InvT-loop
-Inv-loop reversed m size text w d₀ last₀ j₀ d last j = Looking reversed m size text w d last j
-
-abbrev μ-loop : tie.MeasureT-loop
-μ-loop reversed m size text w d₀ last₀ j₀ d last j = j
-
-sub-j : tie.Need-sub-j Inv-loop μ-loop
+sub-j : tie.Need-sub-j
 sub-j c = search needs
 
-loop-holds : tie.Need-loop-holds Inv-loop μ-loop
-loop-holds c = search look-begun
-
-add-index : tie.Need-add-index Inv-loop μ-loop
+add-index : tie.Need-add-index
 add-index c = search needs
 
-shared-slice-read-index : tie.Need-shared-slice-read-index Inv-loop μ-loop
+shared-slice-read-index : tie.Need-shared-slice-read-index
 shared-slice-read-index c = search needs
 
-index-requires : tie.Need-index-requires Inv-loop μ-loop
+index-requires : tie.Need-index-requires
 index-requires c κs = search needs
 
-mul-step : tie.Need-mul-step Inv-loop μ-loop
-mul-step c = search needs
+mul-d : tie.Need-mul-d
+mul-d c = search needs
 
-shared-slice-read-step : tie.Need-shared-slice-read-step Inv-loop μ-loop
-shared-slice-read-step c = search needs
+shared-slice-read-d : tie.Need-shared-slice-read-d
+shared-slice-read-d c = search needs
 
-step-requires : tie.Need-step-requires Inv-loop μ-loop
-step-requires c κs = search needs
-
-returns : tie.Need-returns Inv-loop μ-loop
-returns c = search look-emptied
-
-sub-j-2 : tie.Need-sub-j-2 Inv-loop μ-loop
-sub-j-2 c = search needs
-
-reports-requires : tie.Need-reports-requires Inv-loop μ-loop
+reports-requires : tie.Need-reports-requires
 reports-requires c κs = search needs
 
-loop-less : tie.Need-loop-less Inv-loop μ-loop
-loop-less c = search needs
+returns : tie.Need-returns
+returns c = search first-alone
 
-loop-again : tie.Need-loop-again Inv-loop μ-loop
-loop-again c = search look-begins
+returns-2 : tie.Need-returns-2
+returns-2 c = search first-emptied
 
-loop-less-2 : tie.Need-loop-less-2 Inv-loop μ-loop
-loop-less-2 c = search needs
+sub-next : tie.Need-sub-next
+sub-next c = search needs
 
-loop-again-2 : tie.Need-loop-again-2 Inv-loop μ-loop
-loop-again-2 c = search look-passed
+read-back-requires : tie.Need-read-back-requires
+read-back-requires c κs = (search needs, (search needs, search first-begins))
 
-shared-slice-read-index-2 : tie.Need-shared-slice-read-index-2 Inv-loop μ-loop
-shared-slice-read-index-2 c = search needs
+returns-3 : tie.Need-returns-3
+returns-3 c = search needs
 
-index-requires-2 : tie.Need-index-requires-2 Inv-loop μ-loop
-index-requires-2 c κs = search needs
+read-back-requires-2 : tie.Need-read-back-requires-2
+read-back-requires-2 c κs = (search needs, (search needs, search first-passed))
 
-mul-step-2 : tie.Need-mul-step-2 Inv-loop μ-loop
-mul-step-2 c = search needs
-
-shared-slice-read-step-2 : tie.Need-shared-slice-read-step-2 Inv-loop μ-loop
-shared-slice-read-step-2 c = search needs
-
-step-requires-2 : tie.Need-step-requires-2 Inv-loop μ-loop
-step-requires-2 c κs = search needs
-
-reports-requires-2 : tie.Need-reports-requires-2 Inv-loop μ-loop
-reports-requires-2 c κs = search needs
-
-returns-2 : tie.Need-returns-2 Inv-loop μ-loop
-returns-2 c = search look-over
+returns-4 : tie.Need-returns-4
+returns-4 c = search needs
 
 pub window-shift-spec : {M : Type 1} → statement M
 window-shift-spec =
     tie.close
     (tie.spec
-    Inv-loop
-    μ-loop
     sub-j
-    loop-holds
     add-index
     shared-slice-read-index
     index-requires
-    mul-step
-    shared-slice-read-step
-    step-requires
-    returns
-    sub-j-2
+    mul-d
+    shared-slice-read-d
     reports-requires
-    loop-less
-    loop-again
-    loop-less-2
-    loop-again-2
-    shared-slice-read-index-2
-    index-requires-2
-    mul-step-2
-    shared-slice-read-step-2
-    step-requires-2
-    reports-requires-2
-    returns-2)
+    returns
+    returns-2
+    sub-next
+    read-back-requires
+    returns-3
+    read-back-requires-2
+    returns-4)
