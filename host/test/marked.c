@@ -1,5 +1,4 @@
 /* marked.c: the requirement's marked table, its lister example, and the header's constants, through the header. */
-#include <stdio.h>
 #include <string.h>
 
 #include "jazhuppe.h"
@@ -343,9 +342,6 @@ int main(void)
     text_room = lent_room(1024);
     scan_room = lent_room(4096);
     list_room = lent_room(1024);
-    run_all();
-    puts("again, with a page that nobody may touch before each slice:");
-    lent_in_front = true;
-    run_all();
+    run_both_ways(run_all);
     return finished("marked");
 }

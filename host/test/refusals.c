@@ -1,5 +1,4 @@
 /* refusals.c: every refusal through every call that can give it, and what is lent then. limits.c has the rest of 10. */
-#include <stdio.h>
 #include <string.h>
 
 #include "jazhuppe.h"
@@ -276,9 +275,6 @@ int main(void)
     text_room = lent_room(1024);
     scan_room = lent_room(4096);
     list_room = lent_room(1024);
-    run_all();
-    puts("again, with a page that nobody may touch before each slice:");
-    lent_in_front = true;
-    run_all();
+    run_both_ways(run_all);
     return finished("refusals");
 }

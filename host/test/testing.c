@@ -49,6 +49,15 @@ int finished(const char *program)
 
 bool lent_in_front;
 
+void run_both_ways(void (*tests)(void))
+{
+    lent_in_front = false;
+    tests();
+    puts("again, with a page that nobody may touch before each slice:");
+    lent_in_front = true;
+    tests();
+}
+
 /* How much is looked at around a slice. */
 enum { MARGIN = 64 };
 

@@ -36,6 +36,9 @@ extern bool lent_in_front;
 
 lent lent_room(size_t most);
 
+/* Runs the tests on slices that end directly before such a page, and again on slices that begin directly after one. */
+void run_both_ways(void (*tests)(void));
+
 /* Lends so many bytes of it, filled with a pattern. */
 void *lend(lent *room, size_t bytes);
 
