@@ -1,5 +1,5 @@
 -- The parts of a search, and the whole. On plain values. Assumes nothing.
-use mathlib.Core.Path.{_≡_, refl, sym, ap, ap₂, subst, _∙_}
+use mathlib.Core.Path.{_≡_, sym, ap, ap₂, subst, _∙_}
 use mathlib.Core.Bool.{true, false}
 use mathlib.Core.List.{List, [], _∷_}
 use Prim.Native.Nat.{ℕ, suc, _≤_, _<_}
@@ -20,13 +20,13 @@ use Rattle.references.specs.declared.Answer.{Answer}
 use Rattle.rules.specs.declared.Prepared.{Prepared}
 use Rattle.rules.specs.Preparing.{preparedBy, prepared, Prepares}
 use Rattle.rules.specs.Tables.{Fillable, Filled}
-use Rattle.rules.proofs.Encoded.{is-accepted, may-fill, positions-are, shortest-is, encodes-forwards, encodes-reversed}
+use Rattle.rules.proofs.Encoded.{is-refused, is-accepted, may-fill, positions-are, shortest-is, encodes-forwards, encodes-reversed}
 use Rattle.windows.specs.Reading.{Tables, FirstIs}
 use Rattle.searches.specs.declared.Rule.{Rule}
 use Rattle.searches.specs.declared.Found.{Found}
 use Rattle.searches.specs.Searching.{RuleFits, RuleOf, SearchFits, SearchedIs}
 use Rattle.finder.specs.Preparing.{prepareAnswer, PrepareIs}
-use Rattle.finder.specs.Searching.{answering, searchAnswer, searchList, SearchIs, WholeIs, PreparedIs, Ready, WorkIs}
+use Rattle.finder.specs.Searching.{answering, SearchIs, WholeIs, PreparedIs, Ready, WorkIs}
 
 -- what the elements of a slice of bytes are
 pub bytes-known : (xs : List ℕ) → ((i : ℕ) → Fits w8 (getD xs i 0)) → T (all isByte xs)
@@ -123,15 +123,9 @@ module _ (flag : ℕ) (rule : List ℕ) (p : Prepared) (text listed : ℕ) (r : 
 
 -- ---- `search`
 
-not-accepted : (flag lent : ℕ) (text list : List ℕ) (x : Parsed) (p : Prepared) → p ≡ preparedBy (foldFlag flag) x → (p .number ≡ 0 → ⊥)
-    → (answering (p .number) (p .place) 0 0 ≡ searchAnswer flag text lent x) × (list ≡ searchList flag text list x)
-not-accepted flag lent text list (refused k q) p e z = (rw e, refl)
-not-accepted flag lent text list (accepted es) p e z = absurd (z (ap (λ (y : Prepared). y .number) e))
-
 module _ (flag : ℕ) (rule text list : List ℕ) (p : Prepared) (hp : Prepares flag rule p) where
   pub search-refused : (p .number ≡ 0 → ⊥) → (a : Answer) → a ≡ answering (p .number) (p .place) 0 0 → SearchIs flag rule text list a list
-  unfolding prepared
-  search-refused z a e = let q = not-accepted flag (length list) text list (parse (foldFlag flag) rule) p (hp .is) z in record { answers = e ∙ q .0; lists = q .1 }
+  search-refused z a e = let q = is-refused flag rule p hp z in record { answers = rw q e; lists = rw q }
 
   module _ (z : p .number ≡ 0) (n : ℕ) (w : WholeIs (length text) (length list) n) where
     pub search-not-whole : (n ≡ 0 → ⊥) → (a : Answer) → a ≡ answering n 0 0 0 → SearchIs flag rule text list a list

@@ -1,5 +1,5 @@
 -- The part that is shown, for any rule, text and start. On plain values. Assumes nothing.
-use mathlib.Core.Path.{_≡_, refl, sym, ap, _∙_}
+use mathlib.Core.Path.{_≡_, sym, ap, _∙_}
 use mathlib.Core.Bool.{Bool, false, cond}
 use mathlib.Core.List.{List}
 use Prim.Native.Nat.{ℕ, _+_, _-_, _≤_, _<_}
@@ -9,14 +9,14 @@ use lib.ListN.{length, take, drop}
 use borrow.Author.Tests.{lt-ltb, le-ltb}
 use Rattle.model.specs.Occurrence.{Position, stretch, all}
 use Rattle.model.specs.RuleText.{foldFlag, isByte, positions}
-use Rattle.model.specs.NumberedAnswers.{textLimit, Parsed, refused, accepted, parse, positionsBy, rulePositions}
+use Rattle.model.specs.NumberedAnswers.{textLimit, Parsed, accepted, positionsBy, rulePositions}
 use Rattle.model.specs.WindowSearch.{emptyPart, partFrom, partBy, shown}
 use Rattle.model.proofs.Windows.{take-drop}
 use Rattle.model.proofs.Earliest.{part-empty}
 use Rattle.rules.specs.declared.Prepared.{Prepared}
-use Rattle.rules.specs.Preparing.{preparedBy, prepared, Prepares}
+use Rattle.rules.specs.Preparing.{Prepares}
 use Rattle.rules.specs.Tables.{Fillable, Filled}
-use Rattle.rules.proofs.Encoded.{is-accepted, may-fill}
+use Rattle.rules.proofs.Encoded.{is-refused, is-accepted, may-fill}
 use Rattle.searches.specs.declared.Rule.{Rule}
 use Rattle.searches.specs.declared.Span.{Span}
 use Rattle.searches.specs.Searching.{spanOf, SpanIs}
@@ -43,11 +43,6 @@ module _ (flag : ℕ) (rule : List ℕ) (p : Prepared) (len start : ℕ) (r : Sh
 
 -- ---- `span`
 
-not-accepted : (flag : ℕ) (text : List ℕ) (s : ℕ) (x : Parsed) (p : Prepared) → p ≡ preparedBy (foldFlag flag) x → (p .number ≡ 0 → ⊥)
-    → record { from = length text; to = length text } ≡ spanOf (partBy (foldFlag flag) x text s)
-not-accepted flag text s (refused k q) p e z = refl
-not-accepted flag text s (accepted es) p e z = absurd (z (ap (λ (y : Prepared). y .number) e))
-
 module _ (flag : ℕ) (rule text : List ℕ) (s : ℕ) where
   -- the empty part at the text's end
   abbrev Nothing : Type 0
@@ -58,8 +53,7 @@ module _ (flag : ℕ) (rule text : List ℕ) (s : ℕ) where
 
   module _ (p : Prepared) (hp : Prepares flag rule p) where
     pub shown-refused : (p .number ≡ 0 → ⊥) → Nothing
-    unfolding prepared
-    shown-refused z = nothing (not-accepted flag text s (parse (foldFlag flag) rule) p (hp .is) z)
+    shown-refused z = let a = is-refused flag rule p hp z in nothing (rw a)
 
     module _ (z : p .number ≡ 0) where
       pub shown-long : textLimit < length text → Nothing

@@ -101,6 +101,15 @@ table-entry flag rule reversed table t c = elim (decLe 256 c) [
     ps : List Position
     ps = rowOf reversed (rulePositions (foldFlag flag) rule)
 
+-- what a refusal was of
+pub is-refused : (flag : ℕ) (rule : List ℕ) (p : Prepared) → Prepares flag rule p → (p .number ≡ 0 → ⊥) → parse (foldFlag flag) rule ≡ refused (p .number) (p .place)
+unfolding prepared
+is-refused flag rule p hp z = go (parse (foldFlag flag) rule) (hp .is)
+  where
+    go : (x : Parsed) → p ≡ preparedBy (foldFlag flag) x → x ≡ refused (p .number) (p .place)
+    go (refused n q) e = rw e
+    go (accepted es) e = absurd (z (ap (λ (y : Prepared). y .number) e))
+
 module _ (flag : ℕ) (rule : List ℕ) (p : Prepared) (hp : Prepares flag rule p) (z : p .number ≡ 0) where
   abbrev ps : List Position
   ps = rulePositions (foldFlag flag) rule

@@ -1,5 +1,5 @@
 -- What an opening answers and leaves. On plain values. Assumes nothing.
-use mathlib.Core.Path.{_≡_, refl, sym, ap, ap₂, _∙_}
+use mathlib.Core.Path.{_≡_, sym, ap, ap₂, _∙_}
 use mathlib.Core.Bool.{false}
 use mathlib.Core.List.{List, [], _∷_, _++_, append-assoc}
 use Prim.Native.Nat.{ℕ, _+_}
@@ -9,17 +9,16 @@ use lib.Seq.{sets, sets-eq, length-sets, take-append-seam}
 use borrow.Author.Tests.{eq-eqb, ne-eqb}
 use Rattle.model.specs.Occurrence.{shortest}
 use Rattle.model.specs.RuleText.{foldFlag, positions}
-use Rattle.model.specs.NumberedAnswers.{Parsed, refused, accepted, parse, positionsBy, rulePositions}
+use Rattle.model.specs.NumberedAnswers.{positionsBy, rulePositions}
 use Rattle.model.specs.References.{formLimit, heldMost}
 use Rattle.words.specs.ForwardStep.{opening}
 use Rattle.rules.specs.declared.Prepared.{Prepared}
-use Rattle.rules.specs.Preparing.{answerOf, preparedBy, prepared, Prepares}
+use Rattle.rules.specs.Preparing.{answerOf, Prepares}
 use Rattle.rules.specs.Tables.{tableOf, Fillable, Filled}
-use Rattle.rules.proofs.Encoded.{is-accepted, is-answer, may-fill}
+use Rattle.rules.proofs.Encoded.{is-refused, is-accepted, is-answer, may-fill}
 use Rattle.scan_values.specs.Value.{scanLength, slots, written}
 use Rattle.scan_values.proofs.Readback.{written-keeps, as-list}
-use Rattle.scan.specs.declared.Opened.{Opened}
-use Rattle.scan.specs.Opening.{begun, openingOf, answerBy, leftBy, OpenIs}
+use Rattle.scan.specs.Opening.{begun, openingOf, OpenIs}
 
 -- ---- `begin`
 
@@ -53,15 +52,9 @@ begun-list t s p lt ls =
 
 -- ---- `open`
 
-not-accepted : (flag n : ℕ) (s : List ℕ) (x : Parsed) (p : Prepared) → p ≡ preparedBy (foldFlag flag) x → (p .number ≡ 0 → ⊥)
-    → (_≡_ {A = Opened} (record { number = p .number; place = p .place; positions = 0; shortest = 0 }) (answerBy flag n x)) × (s ≡ leftBy flag s x)
-not-accepted flag n s (refused k q) p e z = (rw e, refl)
-not-accepted flag n s (accepted es) p e z = absurd (z (ap (λ (y : Prepared). y .number) e))
-
 module _ (flag : ℕ) (rule s : List ℕ) (p : Prepared) (hp : Prepares flag rule p) where
   pub open-refused : (p .number ≡ 0 → ⊥) → OpenIs flag rule s (record { number = p .number; place = p .place; positions = 0; shortest = 0 }) s
-  unfolding prepared
-  open-refused z = let q = not-accepted flag (length s) s (parse (foldFlag flag) rule) p (hp .is) z in record { answers = q .0; leaves = q .1 }
+  open-refused z = let a = is-refused flag rule p hp z in record { answers = rw a; leaves = rw a }
 
   module _ (z : p .number ≡ 0) where
     pub open-11 : (length s ≡ scanLength → ⊥) → OpenIs flag rule s (record { number = 11; place = 0; positions = 0; shortest = 0 }) s

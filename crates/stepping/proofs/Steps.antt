@@ -10,7 +10,7 @@ use borrow.Author.Tests.{eqb-true}
 use Rattle.words.specs.Bit.{isSet, bit}
 use Rattle.words.specs.ForwardStep.{wrapSub, move, flood, advance, blockStarts, blockEnds, opening}
 use Rattle.words.proofs.Digits.{or-bit}
-use Rattle.words.proofs.Still.{flood-none, flood-lt, move-lt, move-odd, move-none, bit-odd}
+use Rattle.words.proofs.Still.{flood-none, flood-lt, move-lt, move-odd, move-none, bit-odd, odd-bit}
 use Rattle.words.proofs.Settled.{flood-again, flood-home, flood-quiet, home-in, home-lt, has-beside}
 use Rattle.stepping.specs.declared.Masks.{Masks}
 use Rattle.stepping.specs.declared.Blocks.{Blocks}
@@ -50,10 +50,6 @@ step-odd m d b x e =
 even-bit : (x : ℕ) → x % 2 ≡ 0 → bit x 0 ≡ false
 unfolding bit
 even-bit x e = ap isSet e
-
-odd-bit : (x : ℕ) → x % 2 ≡ 1 → bit x 0 ≡ true
-unfolding bit
-odd-bit x e = ap isSet e
 
 -- every step leaves one
 pub step-settles : (m : Masks) (d b x : ℕ) → m .optional % 2 ≡ 0 → m .optional < 2 ^ 64 → b < 2 ^ 64 → x ≡ stepN m 1 d b → Settled m x

@@ -200,9 +200,6 @@ module _ (w a : ℕ) (ha : a < 2 ^ w) (low : bit a 0 ≡ false) where
         same-all (washed x) x (λ j.
         flood-all x hx j ∙ closed-quiet (bit x) (bit 1) (bit a) (bit (blockStarts w a)) (bit (blockEnds w a)) (blocks w a ha low) held still j)
       where
-        k : ℕ
-        k = opening w a
-
         held : (j : ℕ) → (closed (bit 1) (bit a) j && not (bit x j)) ≡ false
         held j =
             ap (λ (p : Bool). p && not (bit x j)) (sym (home-bit j))

@@ -98,7 +98,7 @@ move-none d b r e =
 
 -- ---- odd words
 
-odd-bit : (x : ℕ) → x % 2 ≡ 1 → bit x 0 ≡ true
+pub odd-bit : (x : ℕ) → x % 2 ≡ 1 → bit x 0 ≡ true
 unfolding bit
 odd-bit x e = rw e refl
 
