@@ -12,26 +12,37 @@ use borrow.Author.Tests.{ne-eqb, eq-eqb, eqb-false, eqb-true}
 use Rattle.model.specs.References.{formLimit, none, referenceAt, notAmp, canGrow, heldTail, letOut}
 use Rattle.model.proofs.Truth.{or-false-left, or-false-right, T-to}
 use Rattle.references.proofs.Cuts.{held-none, letOut-none, held-plain, letOut-plain}
-use Rattle.looks.specs.Looks.{Missed}
-use Rattle.looks.proofs.LookLaws.{Looking, look-on, miss-one}
+use Rattle.looks.specs.Looks.{Missed, Placed, same}
+use Rattle.looks.proofs.LookLaws.{Nearest, near-on, miss-one, miss-join, miss-first}
 use Rattle.amps.specs.Amps.{second, ampAt, Verbatim}
 
--- ---- the look, at this test
+-- ---- the looks, at this test
 
-pub amp-on : (text : List ℕ) (i k : ℕ) (z : Bool) (j : ℕ) (q : Bool) → j < k → q ≡ second (getD text (i + j + 1) 0) → Looking (ampAt text) i k z j
-    → Looking (ampAt text) i k (z || (eqb (getD text (i + j) 0) 38 && q)) (j + 1)
-amp-on text i k z j q h e g = rw e (look-on (ampAt text) i k z j h g)
+pub amp-near : (text : List ℕ) (i b j k : ℕ) (hit : Bool) (v b′ : ℕ) → k ≡ j → j < 64 → hit ≡ ampAt text (i + k) → Nearest (ampAt text) i b j → Placed hit j v → b′ ≤ b → b′ ≤ v
+    → Nearest (ampAt text) i b′ (j + 1)
+amp-near text i b j k hit v b′ e h q g = near-on (ampAt text) i b j hit v b′ h g (q ∙ ap (λ (k : ℕ). ampAt text (i + k)) e)
 
 pub amp-one : (text : List ℕ) (i₀ end i : ℕ) (r : Bool) → i < end → r ≡ ampAt text i → r ≡ false → Missed (ampAt text) i₀ end i → Missed (ampAt text) i₀ end (i + 1)
 amp-one text i₀ end i r h e z g = miss-one (ampAt text) i₀ end i g h (sym e ∙ z)
 
--- ---- `is_amp`
+pub amp-is : (text : List ℕ) (i : ℕ) (q : Bool) → q ≡ second (getD text (i + 1) 0) → (eqb (getD text i 0) 38 && q) ≡ ampAt text i
+amp-is text i q e = ap (λ (b : Bool). eqb (getD text i 0) 38 && b) e
 
-pub other-byte : (text : List ℕ) (i : ℕ) → (getD text i 0 ≡ 38 → ⊥) → false ≡ ampAt text i
-other-byte text i n = sym (ap (λ (b : Bool). b && second (getD text (i + 1) 0)) (ne-eqb (getD text i 0) 38 n))
+-- where no `&` stands, none stands that may begin a form
+pub no-amp : (text : List ℕ) (i end r : ℕ) → Missed (same text 38) i end r → Missed (ampAt text) i end r
+no-amp text i end r g = record {
+  fore = g .fore;
+  within = g .within;
+  none = λ j p q. ap (λ (b : Bool). b && second (getD text (j + 1) 0)) (g .none j p q);
+}
 
-pub amp-then : (text : List ℕ) (i : ℕ) (r : Bool) → getD text i 0 ≡ 38 → r ≡ second (getD text (i + 1) 0) → r ≡ ampAt text i
-amp-then text i r e q = q ∙ sym (ap (λ (b : Bool). b && second (getD text (i + 1) 0)) (eq-eqb (getD text i 0) 38 e))
+-- on by a look for any `&`, and then byte by byte, or by a closer look
+pub amp-crawled : (text : List ℕ) (i₀ end i at r : ℕ) → Missed (ampAt text) i₀ end i → Missed (same text 38) i end at → Missed (ampAt text) at end r → Missed (ampAt text) i₀ end r
+amp-crawled text i₀ end i at r g s m = miss-join (ampAt text) i₀ end at r (miss-join (ampAt text) i₀ end i at g (no-amp text i end at s)) m
+
+pub amp-looked : (text : List ℕ) (i₀ end i at r : ℕ) → Missed (ampAt text) i₀ end i → Missed (same text 38) i end at → 64 ≤ end - at → Missed (ampAt text) at (at + 64) r
+    → Missed (ampAt text) i₀ end r
+amp-looked text i₀ end i at r g s h m = amp-crawled text i₀ end i at r g s (miss-first (ampAt text) at end r h m)
 
 -- ---- no form begins
 

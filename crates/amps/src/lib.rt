@@ -1,9 +1,9 @@
 // The next `&` of a piece that may begin a form: the bytes before it are let out as they came. Most
-// `&` that begin none are told by the byte after them, 32 places at a time.
+// `&` that begin none are told by the byte after them, 64 places at a time.
 ghost use mathlib.Core.Path.{_≡_};
 ghost use Prim.Native.Nat.{_+_, _≤_, _<_};
 ghost use lib.ListN.{length};
-ghost use Rattle.looks.specs.Looks.{Looked, Missed};
+ghost use Rattle.looks.specs.Looks.{Missed};
 ghost use Rattle.amps.specs.Amps.{second, ampAt, Verbatim};
 
 // Whether a byte is the second one of some form.
@@ -13,78 +13,77 @@ fn is_second(c: u8) -> bool
     (c == b'#') | (c == b'a') | (c == b'g') | (c == b'l') | (c == b'q')
 }
 
-// Whether one of the 32 places from i on has a `&` and then the second byte of a form.
-fn any_amp(text: &[u8], i: usize) -> bool
-    requires { ⌜ i + 33 ≤ length (now text) ⌝ }
-    ensures { λ r. ⌜ Looked (ampAt (now (text .entry))) i 32 r ⌝ }
+// Whether a `&` and then such a byte stand at i.
+fn is_amp(text: &[u8], i: usize) -> bool
+    requires { ⌜ i + 1 < length (now text) ⌝ }
+    ensures { λ r. ⌜ r ≡ ampAt (now (text .entry)) i ⌝ }
 {
-    let mut z = false;
-    let mut j = 0;
-    while j < 32 {
-        z = z | ((text[i + j] == b'&') & is_second(text[i + j + 1]));
+    (text[i] == b'&') & is_second(text[i + 1])
+}
+
+// The first of the 64 places from i on where they stand, or the place after them.
+fn first_amp(text: &[u8], i: usize) -> usize
+    requires { ⌜ i + 64 < length (now text) ⌝ }
+    ensures { λ r. ⌜ Missed (ampAt (now (text .entry))) i (i + 64) r ⌝ }
+{
+    let mut f: u8 = 64;
+    let mut j: u8 = 0;
+    while j < 64 {
+        let k = j as usize;
+        let hit = is_amp(text, i + k);
+        f = looks::nearer(f, looks::placed(hit, j));
         j += 1;
     }
-    z
+    i + f as usize
 }
 
-// `end`, where there is none from i on and that shows in one look at the last 32 places; or i.
-fn last_amp(text: &[u8], i: usize, end: usize) -> usize
-    requires { ⌜ i ≤ end ⌝ }
-    requires { ⌜ end < length (now text) ⌝ }
-    ensures { λ r. ⌜ Missed (ampAt (now (text .entry))) i end r ⌝ }
+// The same, where mostly the first `&` is the one.
+fn near_amp(text: &[u8], i: usize) -> usize
+    requires { ⌜ i + 64 < length (now text) ⌝ }
+    ensures { λ r. ⌜ Missed (ampAt (now (text .entry))) i (i + 64) r ⌝ }
 {
-    if end < 32 {
-        return i;
+    let j = looks::first_same(text, b'&', i);
+    if j - i < 64 {
+        if is_amp(text, j) {
+            return j;
+        }
     }
-    let back = end - 32;
-    if i < back {
-        return i;
-    }
-    if any_amp(text, back) {
-        return i;
-    }
-    end
+    first_amp(text, i)
 }
 
-// None up to there: by thirty-twos.
-fn skim_amp(text: &[u8], i: usize, end: usize) -> usize
+// The next such place, byte by byte, or `end`.
+fn crawl_amp(text: &[u8], i: usize, end: usize) -> usize
     requires { ⌜ i ≤ end ⌝ }
     requires { ⌜ end < length (now text) ⌝ }
     ensures { λ r. ⌜ Missed (ampAt (now (text .entry))) i end r ⌝ }
 {
     let mut i = i;
-    while 32 <= end - i {
-        if any_amp(text, i) {
-            return i;
-        }
-        i += 32;
-    }
-    last_amp(text, i, end)
-}
-
-// Whether it stands at i.
-fn is_amp(text: &[u8], i: usize) -> bool
-    requires { ⌜ i + 1 < length (now text) ⌝ }
-    ensures { λ r. ⌜ r ≡ ampAt (now (text .entry)) i ⌝ }
-{
-    if text[i] != b'&' {
-        return false;
-    }
-    is_second(text[i + 1])
-}
-
-// The next such place, or `end`.
-fn find_amp(text: &[u8], i: usize, end: usize) -> usize
-    requires { ⌜ i ≤ end ⌝ }
-    requires { ⌜ end < length (now text) ⌝ }
-    ensures { λ r. ⌜ Missed (ampAt (now (text .entry))) i end r ⌝ }
-{
-    let mut i = skim_amp(text, i, end);
     while i < end {
         if is_amp(text, i) {
             return i;
         }
         i += 1;
+    }
+    i
+}
+
+// The next such place, or `end`: by looks for any `&`, and closer looks where one stands.
+fn find_amp(text: &[u8], i: usize, end: usize) -> usize
+    requires { ⌜ i ≤ end ⌝ }
+    requires { ⌜ end < length (now text) ⌝ }
+    ensures { λ r. ⌜ Missed (ampAt (now (text .entry))) i end r ⌝ }
+{
+    let mut i = i;
+    while i < end {
+        let at = looks::skim_same(text, b'&', i, end);
+        if end - at < 64 {
+            return crawl_amp(text, at, end);
+        }
+        let j = near_amp(text, at);
+        if j - at < 64 {
+            return j;
+        }
+        i = j;
     }
     i
 }

@@ -17,6 +17,17 @@ pub record Missed (f : ℕ → Bool) (i end r : ℕ) : Type 0 where
   pub within : r ≤ end
   pub none : (j : ℕ) → i ≤ j → j < r → f j ≡ false
 
+-- The place j of a look, or the end of it, where the test does not pick j out.
+pub record Placed (hit : Bool) (j r : ℕ) : Type 0 where
+  pub few : r ≤ 64
+  pub over : j < r → hit ≡ false
+
+-- Where a look of 64 places starts that reaches past i, and not past the place `last`.
+pub record LookAt (i last r : ℕ) : Type 0 where
+  pub back : r ≤ i
+  pub within : r ≤ last
+  pub reaches : i < r + 64
+
 -- ---- the tests
 
 -- the entry of byte c in a table meets the word `next`

@@ -1,15 +1,17 @@
 -- `amps::find_amp` meets its contract. Its laws are in this crate's `proofs/`; `search LAW` finds a law's premises in `c`. Assumes nothing.
 use Prim.Native.Nat.{_-_}
-use Rattle.amps.specs.Amps.{ampAt}
+use Rattle.looks.proofs.LookLaws.{miss-begun}
+use Rattle.amps.proofs.AmpLaws.{amp-crawled, amp-looked}
 use Rattle.looks.specs.Looks.{Missed}
-use Rattle.amps.proofs.AmpLaws.{amp-one}
+use Rattle.amps.specs.Amps.{ampAt}
 use borrow.Author.Needs.{needs}
 use Rattle.amps.proofs.find_amp.Statement.{statement}
 use Rattle.amps.proofs.find_amp.Tie as tie
 use Rattle.amps.proofs.find_amp.Reads as reads
 use Rattle.amps.proofs.find_amp.Lts as lts
-use Rattle.amps.proofs.is_amp.Reads as is-amp-reads
-use Rattle.amps.proofs.skim_amp.Reads as skim-amp-reads
+use Rattle.amps.proofs.crawl_amp.Reads as crawl-amp-reads
+use Rattle.amps.proofs.near_amp.Reads as near-amp-reads
+use Rattle.looks.proofs.skim_same.Reads as skim-same-reads
 
 abbrev Inv-loop : tie.InvT-loop
 Inv-loop text i end i₀ i' = Missed (ampAt text) i end i'
@@ -17,29 +19,49 @@ Inv-loop text i end i₀ i' = Missed (ampAt text) i end i'
 abbrev μ-loop : tie.MeasureT-loop
 μ-loop text i end i₀ i' = end - i'
 
-skim-amp-requires : tie.Need-skim-amp-requires Inv-loop μ-loop
-skim-amp-requires c κs = search needs
-
+-- src/lib.rt:77:5
 loop-holds : tie.Need-loop-holds Inv-loop μ-loop
-loop-holds c = search needs
+loop-holds c = search miss-begun
 
-is-amp-requires : tie.Need-is-amp-requires Inv-loop μ-loop
-is-amp-requires c κs = search needs
+-- src/lib.rt:78:13
+skim-same-requires : tie.Need-skim-same-requires Inv-loop μ-loop
+skim-same-requires c κs = search needs
 
+-- src/lib.rt:79:12
+sub-if1 : tie.Need-sub-if1 Inv-loop μ-loop
+sub-if1 c = search needs
+
+-- src/lib.rt:80:13
+crawl-amp-requires : tie.Need-crawl-amp-requires Inv-loop μ-loop
+crawl-amp-requires c κs = search needs
+
+-- src/lib.rt:80:13
 returns : tie.Need-returns Inv-loop μ-loop
-returns c = search needs
+returns c = search amp-crawled
 
-add-i : tie.Need-add-i Inv-loop μ-loop
-add-i c = search needs
+-- src/lib.rt:82:13
+near-amp-requires : tie.Need-near-amp-requires Inv-loop μ-loop
+near-amp-requires c κs = search needs
 
+-- src/lib.rt:83:12
+sub-if2 : tie.Need-sub-if2 Inv-loop μ-loop
+sub-if2 c = search needs
+
+-- src/lib.rt:84:13
+returns-2 : tie.Need-returns-2 Inv-loop μ-loop
+returns-2 c = search amp-looked
+
+-- src/lib.rt:77:5
 loop-less : tie.Need-loop-less Inv-loop μ-loop
 loop-less c = search needs
 
+-- src/lib.rt:77:5
 loop-again : tie.Need-loop-again Inv-loop μ-loop
-loop-again c = search amp-one
+loop-again c = search amp-looked
 
-returns-2 : tie.Need-returns-2 Inv-loop μ-loop
-returns-2 c = search needs
+-- src/lib.rt:71:1
+returns-3 : tie.Need-returns-3 Inv-loop μ-loop
+returns-3 c = search needs
 
 pub find-amp-spec : {M : Type 1} → statement M
 find-amp-spec =
@@ -47,11 +69,14 @@ find-amp-spec =
     (tie.spec
     Inv-loop
     μ-loop
-    skim-amp-requires
     loop-holds
-    is-amp-requires
+    skim-same-requires
+    sub-if1
+    crawl-amp-requires
     returns
-    add-i
+    near-amp-requires
+    sub-if2
+    returns-2
     loop-less
     loop-again
-    returns-2)
+    returns-3)

@@ -1,47 +1,45 @@
 -- `looks::any_pair` meets its contract. Its laws are in this crate's `proofs/`; `search LAW` finds a law's premises in `c`. Assumes nothing.
-use borrow.Author.Needs.{needs}
 use Prim.Native.Nat.{_-_}
 use Rattle.looks.proofs.LookLaws.{Looking, look-begun, pair-on, look-over}
 use Rattle.looks.specs.Looks.{pairAt}
+use borrow.Author.Needs.{needs}
 use Rattle.looks.proofs.any_pair.Statement.{statement}
 use Rattle.looks.proofs.any_pair.Tie as tie
+use Rattle.looks.proofs.any_pair.Reads as reads
+use Rattle.looks.proofs.any_pair.Lts as lts
+use Rattle.looks.proofs.is_pair.Reads as is-pair-reads
 
 abbrev Inv-loop : tie.InvT-loop
-Inv-loop text a b x y i z₀ j₀ z j = Looking (pairAt text a b x y) i 32 z j
+Inv-loop text a b x y i z₀ j₀ z j = Looking (pairAt text a b x y) i 64 z j
 
 abbrev μ-loop : tie.MeasureT-loop
-μ-loop text a b x y i z₀ j₀ z j = 32 - j
+μ-loop text a b x y i z₀ j₀ z j = 64 - j
 
+-- src/lib.rt:322:5
 loop-holds : tie.Need-loop-holds Inv-loop μ-loop
 loop-holds c = look-begun _ _ _
 
-add-z : tie.Need-add-z Inv-loop μ-loop
-add-z c = search needs
+-- src/lib.rt:323:43
+add-is-pair : tie.Need-add-is-pair Inv-loop μ-loop
+add-is-pair c = search needs
 
-add-z-2 : tie.Need-add-z-2 Inv-loop μ-loop
-add-z-2 c = search needs
+-- src/lib.rt:323:17
+is-pair-requires : tie.Need-is-pair-requires Inv-loop μ-loop
+is-pair-requires c κs = search needs
 
-shared-slice-read-z : tie.Need-shared-slice-read-z Inv-loop μ-loop
-shared-slice-read-z c = search needs
-
-add-z-3 : tie.Need-add-z-3 Inv-loop μ-loop
-add-z-3 c = search needs
-
-add-z-4 : tie.Need-add-z-4 Inv-loop μ-loop
-add-z-4 c = search needs
-
-shared-slice-read-z-2 : tie.Need-shared-slice-read-z-2 Inv-loop μ-loop
-shared-slice-read-z-2 c = search needs
-
+-- src/lib.rt:324:9
 add-j : tie.Need-add-j Inv-loop μ-loop
 add-j c = search needs
 
+-- src/lib.rt:322:5
 loop-less : tie.Need-loop-less Inv-loop μ-loop
 loop-less c = search needs
 
+-- src/lib.rt:322:5
 loop-again : tie.Need-loop-again Inv-loop μ-loop
 loop-again c = search pair-on
 
+-- src/lib.rt:315:1
 returns : tie.Need-returns Inv-loop μ-loop
 returns c = search look-over
 
@@ -52,12 +50,8 @@ any-pair-spec =
     Inv-loop
     μ-loop
     loop-holds
-    add-z
-    add-z-2
-    shared-slice-read-z
-    add-z-3
-    add-z-4
-    shared-slice-read-z-2
+    add-is-pair
+    is-pair-requires
     add-j
     loop-less
     loop-again

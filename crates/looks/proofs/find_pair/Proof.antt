@@ -1,64 +1,54 @@
 -- `looks::find_pair` meets its contract. Its laws are in this crate's `proofs/`; `search LAW` finds a law's premises in `c`. Assumes nothing.
+use Rattle.looks.proofs.LookLaws.{miss-first, miss-first-then}
 use borrow.Author.Needs.{needs}
-use Prim.Native.Nat.{_-_}
-use Rattle.looks.proofs.LookLaws.{pair-one}
-use Rattle.looks.specs.Looks.{Missed, pairAt}
 use Rattle.looks.proofs.find_pair.Statement.{statement}
 use Rattle.looks.proofs.find_pair.Tie as tie
+use Rattle.looks.proofs.find_pair.Reads as reads
+use Rattle.looks.proofs.find_pair.Lts as lts
+use Rattle.looks.proofs.far_pair.Reads as far-pair-reads
+use Rattle.looks.proofs.first_pair.Reads as first-pair-reads
 
-abbrev Inv-loop : tie.InvT-loop
-Inv-loop text a b x y i end i₀ i' = Missed (pairAt text a b x y) i end i'
+-- src/lib.rt:406:8
+sub-if1 : tie.Need-sub-if1
+sub-if1 c = search needs
 
-abbrev μ-loop : tie.MeasureT-loop
-μ-loop text a b x y i end i₀ i' = end - i'
+-- src/lib.rt:407:9
+far-pair-requires : tie.Need-far-pair-requires
+far-pair-requires c κs = search needs
 
-skim-pair-requires : tie.Need-skim-pair-requires Inv-loop μ-loop
-skim-pair-requires c κs = search needs
-
-loop-holds : tie.Need-loop-holds Inv-loop μ-loop
-loop-holds c = search needs
-
-add-if1 : tie.Need-add-if1 Inv-loop μ-loop
-add-if1 c = search needs
-
-shared-slice-read-if1 : tie.Need-shared-slice-read-if1 Inv-loop μ-loop
-shared-slice-read-if1 c = search needs
-
-add-if1-2 : tie.Need-add-if1-2 Inv-loop μ-loop
-add-if1-2 c = search needs
-
-shared-slice-read-if1-2 : tie.Need-shared-slice-read-if1-2 Inv-loop μ-loop
-shared-slice-read-if1-2 c = search needs
-
-returns : tie.Need-returns Inv-loop μ-loop
+-- src/lib.rt:407:9
+returns : tie.Need-returns
 returns c = search needs
 
-add-i : tie.Need-add-i Inv-loop μ-loop
-add-i c = search needs
+-- src/lib.rt:409:9
+first-pair-requires : tie.Need-first-pair-requires
+first-pair-requires c κs = search needs
 
-loop-less : tie.Need-loop-less Inv-loop μ-loop
-loop-less c = search needs
+-- src/lib.rt:410:8
+sub-if2 : tie.Need-sub-if2
+sub-if2 c = search needs
 
-loop-again : tie.Need-loop-again Inv-loop μ-loop
-loop-again c = search pair-one
+-- src/lib.rt:411:9
+returns-2 : tie.Need-returns-2
+returns-2 c = search miss-first
 
-returns-2 : tie.Need-returns-2 Inv-loop μ-loop
-returns-2 c = search needs
+-- src/lib.rt:413:5
+far-pair-requires-2 : tie.Need-far-pair-requires-2
+far-pair-requires-2 c κs = search needs
+
+-- src/lib.rt:400:1
+returns-3 : tie.Need-returns-3
+returns-3 c = search miss-first-then
 
 pub find-pair-spec : {M : Type 1} → statement M
 find-pair-spec =
     tie.close
     (tie.spec
-    Inv-loop
-    μ-loop
-    skim-pair-requires
-    loop-holds
-    add-if1
-    shared-slice-read-if1
-    add-if1-2
-    shared-slice-read-if1-2
+    sub-if1
+    far-pair-requires
     returns
-    add-i
-    loop-less
-    loop-again
-    returns-2)
+    first-pair-requires
+    sub-if2
+    returns-2
+    far-pair-requires-2
+    returns-3)
