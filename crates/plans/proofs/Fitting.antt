@@ -1,6 +1,6 @@
 -- That a pair of positions fits: what the tests on the table and the masks say. Assumes nothing.
-use mathlib.Core.Path.{_≡_, refl, sym, _∙_}
-use mathlib.Core.Bool.{Bool, true, false, not, _&&_, _||_}
+use mathlib.Core.Path.{_≡_, sym, _∙_}
+use mathlib.Core.Bool.{Bool, true, false, not, _||_}
 use mathlib.Core.List.{List}
 use Prim.Native.Nat.{ℕ, _+_, _-_, _*_, _%_, _^_, _≤_, _<_}
 use native.Mathlib.Nat.{one-mul}
@@ -10,102 +10,92 @@ use lib.Bits.{bitAnd, bitOr}
 use lib.Dec.{eqb, leb, lit<}
 use lib.ListN.{length, getD, List·getD-eq-default}
 use lib.Pow.{pow-pos, shl-exact}
-use borrow.Author.Tests.{not-true, not-false, eqb-false, leb-true}
-use Rattle.model.proofs.Truth.{or-false-left, or-false-right, and-false, T-to}
+use borrow.Author.Tests.{not-false, eqb-true, leb-true}
+use Rattle.model.proofs.Truth.{or-false-left, or-false-right, T-to}
 use Rattle.words.specs.Bit.{bit}
 use Rattle.words.proofs.Digits.{and-bit, or-bit, none-bit}
-use Rattle.words.proofs.Apart.{clear-at, at-clear}
-use Rattle.plans.specs.Plans.{Home, Shared, Alone, Plain, Fit, Paired, Planned}
+use Rattle.words.proofs.Apart.{clear-at}
+use Rattle.plans.specs.Plans.{Home, Union, Others, Clear, Plain, Fit, Paired, Planned}
 
--- ---- the bits that two entries have in common
+-- ---- the bits of all the entries but two
 
--- after the entries below c: all their bits, and those that two of them have
-pub record Sharing (t : List ℕ) (once twice c : ℕ) : Type 0 where
-  pub few : c ≤ 256
-  pub all : (i : ℕ) → i < c → (j : ℕ) → bit once j ≡ false → bit (getD t i 0) j ≡ false
-  pub two : (i i′ : ℕ) → i < i′ → i′ < c → (j : ℕ) → bit twice j ≡ false → (bit (getD t i 0) j && bit (getD t i′ 0) j) ≡ false
+below : (lo c : ℕ) → (c ≡ lo → ⊥) → (c < lo → ⊥) → lo + 1 ≤ c
+below lo c n l = omega arith
 
-pub share-begun : (t : List ℕ) → Sharing t 0 0 0
-share-begun t = record { few = omega arith; all = λ i p. absurd (omega arith); two = λ i i′ p q. absurd (omega arith) }
+pub unite-begun : (t : List ℕ) (lo : ℕ) → Union t lo lo 0
+unite-begun t lo = record { all = λ c a b. absurd (omega arith) }
 
-pub share-on : (t : List ℕ) (once twice c e : ℕ) → c < 256 → e ≡ getD t c 0 → Sharing t once twice c
-    → Sharing t (bitOr once e) (bitOr twice (bitAnd once e)) (c + 1)
-share-on t once twice c e h q g = record {
-  few = omega arith;
-  all = λ i p j z. all i p j (or-false-left (bit once j) (bit e j) (sym (or-bit once e j) ∙ z)) (or-false-right (bit once j) (bit e j) (sym (or-bit once e j) ∙ z)) (decLt i c);
-  two = λ i i′ p p′ j z. let z′ : (bit twice j || bit (bitAnd once e) j) ≡ false = sym (or-bit twice (bitAnd once e) j) ∙ z in
-      two i i′ p p′ j (or-false-left (bit twice j) (bit (bitAnd once e) j) z′)
-      (sym (and-bit once e j) ∙ or-false-right (bit twice j) (bit (bitAnd once e) j) z′) (decLt i′ c);
+pub unite-on : (t : List ℕ) (lo c u : ℕ) → Union t lo c u → Union t lo (c + 1) (bitOr u (getD t c 0))
+unite-on t lo c u g = record { all = λ i a b j z. go i a b j (sym (or-bit u (getD t c 0) j) ∙ z) (decLt i c) }
+  where
+    go : (i : ℕ) → lo ≤ i → i < c + 1 → (j : ℕ) → (bit u j || bit (getD t c 0) j) ≡ false → Dec (i < c) → bit (getD t i 0) j ≡ false
+    go i a b j z (yes l) = g .all i a l j (or-false-left (bit u j) (bit (getD t c 0) j) z)
+    go i a b j z (no l) = let e : i ≡ c = omega arith in rw e (or-false-right (bit u j) (bit (getD t c 0) j) z)
+
+pub unite-over : (t : List ℕ) (lo hi c u : ℕ) → hi ≤ c → Union t lo c u → Union t lo hi u
+unite-over t lo hi c u h g = record { all = λ i a b. g .all i a (omega arith) }
+
+pub others-are : (t : List ℕ) (lo hi u v w : ℕ) → length t ≡ 256 → Union t 0 lo u → Union t (lo + 1) hi v → Union t (hi + 1) 256 w → Others t lo hi (bitOr (bitOr u v) w)
+others-are t lo hi u v w n a b d = record { all = λ c x y j z. go c x y j (sym (or-bit (bitOr u v) w j) ∙ z) (decLt c lo) (decLt c hi) (decLt c 256) }
+  where
+    go : (c : ℕ) → (c ≡ lo → ⊥) → (c ≡ hi → ⊥) → (j : ℕ) → (bit (bitOr u v) j || bit w j) ≡ false → Dec (c < lo) → Dec (c < hi) → Dec (c < 256) → bit (getD t c 0) j ≡ false
+    go c x y j z p q r =
+        let uv : (bit u j || bit v j) ≡ false = sym (or-bit u v j) ∙ or-false-left (bit (bitOr u v) j) (bit w j) z in
+        by p q r (or-false-left (bit u j) (bit v j) uv) (or-false-right (bit u j) (bit v j) uv) (or-false-right (bit (bitOr u v) j) (bit w j) z)
+      where
+        by : Dec (c < lo) → Dec (c < hi) → Dec (c < 256) → bit u j ≡ false → bit v j ≡ false → bit w j ≡ false → bit (getD t c 0) j ≡ false
+        by (yes l) q r eu ev ew = a .all c (omega arith) l j eu
+        by (no l) (yes l′) r eu ev ew = b .all c (below lo c x l) l′ j ev
+        by (no l) (no l′) (yes l″) eu ev ew = d .all c (below hi c y l′) l″ j ew
+        by (no l) (no l′) (no l″) eu ev ew =
+            let e : getD t c 0 ≡ 0 = List·getD-eq-default t 0 (omega arith) in
+            rw e (none-bit j)
+
+pub others-straight : (t : List ℕ) (x y i j w : ℕ) → i ≡ x → j ≡ y → Others t i j w → Others t x y w
+others-straight t x y i j w e e′ g = rw (e, e′) at g
+
+pub others-turned : (t : List ℕ) (x y i j w : ℕ) → i ≡ x → j ≡ y → Others t j i w → Others t x y w
+others-turned t x y i j w e e′ g = record { all = λ c p q. g .all c (λ r. q (r ∙ e′)) (λ r. p (r ∙ e)) }
+
+pub clear-no : (t : List ℕ) (w p y : ℕ) → Clear t w p y false
+clear-no t w p y = record { word = λ e. absurd (T-to (sym e) tt); entry = λ e. absurd (T-to (sym e) tt) }
+
+pub clear-yes : (t : List ℕ) (w p y k c : ℕ) → k ≡ 2 ^ p → c ≡ y → Clear t w p y (eqb (bitAnd (bitOr w (getD t c 0)) k) 0)
+clear-yes t w p y k c e q = record {
+  word = λ z. or-false-left (bit w p) (bit (getD t y 0) p) (both z);
+  entry = λ z. or-false-right (bit w p) (bit (getD t y 0) p) (both z);
 }
   where
-    all : (i : ℕ) → i < c + 1 → (j : ℕ) → bit once j ≡ false → bit e j ≡ false → Dec (i < c) → bit (getD t i 0) j ≡ false
-    all i p j z z′ (yes l) = g .all i l j z
-    all i p j z z′ (no l) = let r : i ≡ c = omega arith in rw (r, ← q) z′
-
-    met : (p q : Bool) → (p ≡ false → q ≡ false) → (r : Bool) → (p && r) ≡ false → (q && r) ≡ false
-    met p q f false z = and-false q
-    met false q f true z = rw (f refl) refl
-    met true q f true z = absurd (T-to z tt)
-
-    two : (i i′ : ℕ) → i < i′ → i′ < c + 1 → (j : ℕ) → bit twice j ≡ false → (bit once j && bit e j) ≡ false → Dec (i′ < c)
-        → (bit (getD t i 0) j && bit (getD t i′ 0) j) ≡ false
-    two i i′ p p′ j z z′ (yes l) = g .two i i′ p l j z
-    two i i′ p p′ j z z′ (no l) =
-        let r : i′ ≡ c = omega arith in
-        rw (r, ← q) (met (bit once j) (bit (getD t i 0) j) (g .all i (omega arith) j) (bit e j) z′)
-
-pub share-over : (t : List ℕ) (once twice c : ℕ) → length t ≡ 256 → 256 ≤ c → Sharing t once twice c → Shared t twice
-share-over t once twice c n h g = record { none = λ i i′ p j z. go i i′ p j z (decLt i′ 256) }
-  where
-    go : (i i′ : ℕ) → i < i′ → (j : ℕ) → bit twice j ≡ false → Dec (i′ < 256) → (bit (getD t i 0) j && bit (getD t i′ 0) j) ≡ false
-    go i i′ p j z (yes l) = g .two i i′ p (omega arith) j z
-    go i i′ p j z (no l) =
-        let q : getD t i′ 0 ≡ 0 = List·getD-eq-default t 0 (omega arith) in
-        rw (q, none-bit j) (and-false (bit (getD t i 0) j))
-
--- ---- a position with one byte
-
-pub alone-no : (t : List ℕ) (p x : ℕ) → Alone t p x false
-alone-no t p x = record { only = λ e. absurd (T-to (sym e) tt) }
-
-pub alone-yes : (t : List ℕ) (w p x k c : ℕ) → Shared t w → k ≡ 2 ^ p → c ≡ x → bitAnd w k ≡ 0 → Alone t p x (not (eqb (bitAnd (getD t c 0) k) 0))
-alone-yes t w p x k c s e q z = record { only = λ y d n. go y d n (decLt d x) (decLt x d) }
-  where
-    free : bit w p ≡ false
-    free = clear-at w p (rw (← e) z)
-
-    has : not (eqb (bitAnd (getD t c 0) k) 0) ≡ true → bit (getD t x 0) p ≡ false → ⊥
-    has y f =
-        let u : bitAnd (getD t c 0) k ≡ 0 = rw (q, e) (at-clear (getD t x 0) p f) in
-        eqb-false (bitAnd (getD t c 0) k) 0 (not-true (eqb (bitAnd (getD t c 0) k) 0) y) u
-
-    left : (p q : Bool) → (p && q) ≡ false → (q ≡ false → ⊥) → p ≡ false
-    left false q f n = refl
-    left true q f n = absurd (n f)
-
-    right : (p q : Bool) → (p && q) ≡ false → (p ≡ false → ⊥) → q ≡ false
-    right true q f n = f
-    right false q f n = absurd (n refl)
-
-    go : not (eqb (bitAnd (getD t c 0) k) 0) ≡ true → (d : ℕ) → (d ≡ x → ⊥) → Dec (d < x) → Dec (x < d) → bit (getD t d 0) p ≡ false
-    go y d n (yes l) r = left (bit (getD t d 0) p) (bit (getD t x 0) p) (s .none d x l p free) (has y)
-    go y d n (no l) (yes r) = right (bit (getD t x 0) p) (bit (getD t d 0) p) (s .none x d r p free) (has y)
-    go y d n (no l) (no r) = absurd (n (omega arith))
+    both : eqb (bitAnd (bitOr w (getD t c 0)) k) 0 ≡ true → (bit w p || bit (getD t y 0) p) ≡ false
+    both z =
+        let u : bitAnd (bitOr w (getD t y 0)) (2 ^ p) ≡ 0 = rw (← q, ← e) (eqb-true (bitAnd (bitOr w (getD t c 0)) k) 0 z) in
+        sym (or-bit w (getD t y 0) p) ∙ clear-at (bitOr w (getD t y 0)) p u
 
 -- ---- the pair
 
 pub fit-no : (t : List ℕ) (repeats optional top p q x y : ℕ) → Fit t repeats optional top p q x y false
 fit-no t repeats optional top p q x y = record { pair = λ e. absurd (T-to (sym e) tt) }
 
-pub fit-yes : (t : List ℕ) (repeats optional top p q x y : ℕ) (s r r′ : Bool) → Plain repeats optional top p q s → not s ≡ false → Alone t p x r
-    → not r ≡ false → Alone t q y r′ → Fit t repeats optional top p q x y r′
-fit-yes t repeats optional top p q x y s r r′ g ns ax nr ay = record { pair = made }
+but-one : (t : List ℕ) (c y p : ℕ) → bit (getD t y 0) p ≡ false → ((c ≡ y → ⊥) → bit (getD t c 0) p ≡ false) → Dec (c < y) → Dec (y < c) → bit (getD t c 0) p ≡ false
+but-one t c y p e f (yes l) r = f (λ q. omega arith)
+but-one t c y p e f (no l) (yes r) = f (λ q. omega arith)
+but-one t c y p e f (no l) (no r) = let q : c ≡ y = omega arith in rw q e
+
+pub fit-yes : (t : List ℕ) (repeats optional top p q x y w : ℕ) (s r r′ : Bool) → Plain repeats optional top p q s → not s ≡ false → Others t x y w → Clear t w p y r
+    → not r ≡ false → Clear t w q x r′ → Fit t repeats optional top p q x y r′
+fit-yes t repeats optional top p q x y w s r r′ g ns o cp nr cq = record { pair = made }
   where
     es : s ≡ true
     es = not-false s ns
 
     er : r ≡ true
     er = not-false r nr
+
+    first : (c : ℕ) → (c ≡ x → ⊥) → bit (getD t c 0) p ≡ false
+    first c n = but-one t c y p (cp .entry er) (λ m. o .all c n m p (cp .word er)) (decLt c y) (decLt y c)
+
+    second : r′ ≡ true → (c : ℕ) → (c ≡ y → ⊥) → bit (getD t c 0) q ≡ false
+    second k c n = but-one t c x q (cq .entry k) (λ m. o .all c m n q (cq .word k)) (decLt c x) (decLt x c)
 
     made : r′ ≡ true → Paired t repeats optional top (p - 1) (q - 1) x y
     made e =
@@ -121,8 +111,8 @@ fit-yes t repeats optional top p q x y s r r′ g ns ax nr ay = record { pair = 
           word = g .word es;
           plain = rw i (g .free es);
           above = rw i′ (g .above es);
-          first = λ c n. rw i″ (ax .only er c n);
-          second = λ c n. rw i′ (ay .only e c n);
+          first = λ c n. rw i″ (first c n);
+          second = λ c n. rw i′ (second e c n);
         }
 
 pub plain-no : (repeats optional top p q : ℕ) → Plain repeats optional top p q false

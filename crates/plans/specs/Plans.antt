@@ -38,13 +38,18 @@ pub record Planned (t : List ℕ) (repeats optional top : ℕ) (p : Plan) : Type
 
 -- ---- the tests that a pair passes: what each says where it says yes
 
--- w has every bit that the entries of two bytes have in common
-pub record Shared (t : List ℕ) (w : ℕ) : Type 0 where
-  pub none : (c c′ : ℕ) → c < c′ → (j : ℕ) → bit w j ≡ false → (bit (getD t c 0) j && bit (getD t c′ 0) j) ≡ false
+-- w has every bit of the entries from lo up to hi
+pub record Union (t : List ℕ) (lo hi w : ℕ) : Type 0 where
+  pub all : (c : ℕ) → lo ≤ c → c < hi → (j : ℕ) → bit w j ≡ false → bit (getD t c 0) j ≡ false
 
--- only x's entry has bit p
-pub record Alone (t : List ℕ) (p x : ℕ) (r : Bool) : Type 0 where
-  pub only : r ≡ true → (c : ℕ) → (c ≡ x → ⊥) → bit (getD t c 0) p ≡ false
+-- it has every bit of all the entries but those of x and y
+pub record Others (t : List ℕ) (x y w : ℕ) : Type 0 where
+  pub all : (c : ℕ) → (c ≡ x → ⊥) → (c ≡ y → ⊥) → (j : ℕ) → bit w j ≡ false → bit (getD t c 0) j ≡ false
+
+-- neither w nor y's entry has bit p
+pub record Clear (t : List ℕ) (w p y : ℕ) (r : Bool) : Type 0 where
+  pub word : r ≡ true → bit w p ≡ false
+  pub entry : r ≡ true → bit (getD t y 0) p ≡ false
 
 -- the masks leave the positions up to q plain and silent
 pub record Plain (repeats optional top p q : ℕ) (r : Bool) : Type 0 where

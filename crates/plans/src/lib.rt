@@ -4,7 +4,7 @@ ghost use mathlib.Core.Path.{_≡_};
 ghost use Prim.Native.Nat.{_-_, _<_, _≤_, _^_};
 ghost use lib.ListN.{length};
 ghost use Rattle.looks.specs.Looks.{Missed, meets};
-ghost use Rattle.plans.specs.Plans.{Home, Shared, Alone, Plain, Fit, Planned};
+ghost use Rattle.plans.specs.Plans.{Home, Union, Others, Clear, Plain, Fit, Planned};
 use looks::index;
 
 // Kinds of plan: bytes of the opening state `home` are passed over not at all, or to the next byte
@@ -174,16 +174,14 @@ fn all_leave(table: &[u64], next: u64, lo: usize, past: usize) -> bool
 // A plan by a pair of rare bytes in the plain beginning, or by the bytes that leave.
 fn plan_pair(table: &[u64], repeats: u64, optional: u64, top: u64, home: u64, next: u64) -> Plan
     requires { ⌜ length (now table) ≡ 256 ⌝ }
+    requires { ⌜ top < 64 ⌝ }
     requires { ⌜ Home repeats optional top home next ⌝ }
     ensures { λ r. ⌜ Planned (now (table .entry)) repeats optional top r ⌝ }
 {
     if home != 1 {
         return plan_skip(table, repeats, optional, top, home, next);
     }
-    let seen = shared(table);
-    let twice = seen.twice;
-    let busy = optional | repeats;
-    let free = std::num::wrapping_sub_u64(busy, 1) & !(busy | twice | 1) & seen.once;
+    let free = plain_bits(repeats, optional, top);
     if u64::count_ones(free) < 2 {
         return plan_skip(table, repeats, optional, top, home, next);
     }
@@ -200,7 +198,6 @@ fn plan_pair(table: &[u64], repeats: u64, optional: u64, top: u64, home: u64, ne
         top,
         home,
         next,
-        twice,
         p,
         g.bit,
         f.byte,
@@ -208,29 +205,16 @@ fn plan_pair(table: &[u64], repeats: u64, optional: u64, top: u64, home: u64, ne
     )
 }
 
-// The bits of all the entries, and those that two of them have in common.
-pub struct Seen {
-    pub once: u64,
-    pub twice: u64,
-}
-
-fn shared(table: &[u64]) -> Seen
-    requires { ⌜ length (now table) ≡ 256 ⌝ }
-    ensures { λ r. ⌜ Shared (now (table .entry)) (r .twice) ⌝ }
+// The positions of the plain beginning, those before the first that is optional or repeats. Only a
+// choice: it promises nothing.
+fn plain_bits(repeats: u64, optional: u64, top: u64) -> u64
+    requires { ⌜ top < 64 ⌝ }
 {
-    let mut once: u64 = 0;
-    let mut twice: u64 = 0;
-    let mut c = 0;
-    while c < 256 {
-        let e = table[c];
-        twice = twice | (once & e);
-        once = once | e;
-        c += 1;
-    }
-    Seen {
-        once: once,
-        twice: twice,
-    }
+    let busy = optional | repeats;
+    let below_busy = std::num::wrapping_sub_u64(busy, 1) & !busy;
+    let t = top as u32;
+    let up_to_top = std::num::wrapping_sub_u64(power(t) << 1, 1);
+    below_busy & up_to_top & !1
 }
 
 // A byte, its rank among the rare ones, and a bit of its entry.
@@ -240,8 +224,23 @@ pub struct Choice {
     pub bit: u32,
 }
 
-// The rarest byte in common text, from a rank on, whose entry meets `free`, and the lowest bit there;
-// bit 64 if there is none. Only a choice: it promises nothing.
+// The bits of `free` that the entry of c has, and neither its neighbours' nor the other case's: a class
+// that c is one of shows there mostly. Only a choice.
+fn lone(table: &[u64], free: u64, c: u8) -> u64
+    requires { ⌜ length (now table) ≡ 256 ⌝ }
+{
+    let e = table[index(c)] & free;
+    if e == 0 {
+        return 0;
+    }
+    let before = index(std::num::wrapping_sub_u8(c, 1));
+    let after = index(std::num::wrapping_add_u8(c, 1));
+    let other = index(c ^ 32);
+    e & !(table[before] | table[after] | table[other])
+}
+
+// The rarest byte in common text, from a rank on, that seems to stand alone at a position of `free`, and
+// the lowest such; bit 64 if there is none. Only a choice: it promises nothing.
 fn choose(table: &[u64], free: u64, rank: usize) -> Choice
     requires { ⌜ length (now table) ≡ 256 ⌝ }
 {
@@ -250,7 +249,7 @@ fn choose(table: &[u64], free: u64, rank: usize) -> Choice
     let mut r = rank;
     while r < rare.len() {
         let c = rare[r];
-        let e = table[index(c)] & free;
+        let e = lone(table, free, c);
         if e != 0 {
             return Choice {
                 rank: r,
@@ -275,7 +274,6 @@ fn pair_or_skip(
     top: u64,
     home: u64,
     next: u64,
-    twice: u64,
     p: u32,
     q: u32,
     x: u8,
@@ -284,13 +282,12 @@ fn pair_or_skip(
     requires { ⌜ length (now table) ≡ 256 ⌝ }
     requires { ⌜ Home repeats optional top home next ⌝ }
     requires { ⌜ home ≡ 1 ⌝ }
-    requires { ⌜ Shared (now table) twice ⌝ }
     ensures { λ r. ⌜ Planned (now (table .entry)) repeats optional top r ⌝ }
 {
     if p < q {
-        return pair_in_order(table, repeats, optional, top, home, next, twice, p, q, x, y);
+        return pair_in_order(table, repeats, optional, top, home, next, p, q, x, y);
     }
-    pair_in_order(table, repeats, optional, top, home, next, twice, q, p, y, x)
+    pair_in_order(table, repeats, optional, top, home, next, q, p, y, x)
 }
 
 // The same where p is to come first.
@@ -301,7 +298,6 @@ fn pair_in_order(
     top: u64,
     home: u64,
     next: u64,
-    twice: u64,
     p: u32,
     q: u32,
     x: u8,
@@ -310,10 +306,9 @@ fn pair_in_order(
     requires { ⌜ length (now table) ≡ 256 ⌝ }
     requires { ⌜ Home repeats optional top home next ⌝ }
     requires { ⌜ home ≡ 1 ⌝ }
-    requires { ⌜ Shared (now table) twice ⌝ }
     ensures { λ r. ⌜ Planned (now (table .entry)) repeats optional top r ⌝ }
 {
-    if fits(table, repeats, optional, top, twice, p, q, x, y) {
+    if fits(table, repeats, optional, top, p, q, x, y) {
         return Plan {
             kind: BY_PAIR,
             home: home,
@@ -344,23 +339,63 @@ fn fits(
     repeats: u64,
     optional: u64,
     top: u64,
-    twice: u64,
     p: u32,
     q: u32,
     x: u8,
     y: u8,
 ) -> bool
     requires { ⌜ length (now table) ≡ 256 ⌝ }
-    requires { ⌜ Shared (now table) twice ⌝ }
     ensures { λ r. ⌜ Fit (now (table .entry)) repeats optional top p q x y r ⌝ }
 {
     if !plain(repeats, optional, top, p, q) {
         return false;
     }
-    if !alone(table, twice, p, x) {
+    let rest = others(table, x, y);
+    if !clear(table, rest, p, y) {
         return false;
     }
-    alone(table, twice, q, y)
+    clear(table, rest, q, x)
+}
+
+// The bits of the entries from lo up to hi.
+fn union(table: &[u64], lo: usize, hi: usize) -> u64
+    requires { ⌜ length (now table) ≡ 256 ⌝ }
+    requires { ⌜ hi ≤ 256 ⌝ }
+    ensures { λ r. ⌜ Union (now (table .entry)) lo hi r ⌝ }
+{
+    let mut u: u64 = 0;
+    let mut c = lo;
+    while c < hi {
+        u = u | table[c];
+        c += 1;
+    }
+    u
+}
+
+// The bits of all the entries but two.
+fn others_in_order(table: &[u64], lo: usize, hi: usize) -> u64
+    requires { ⌜ length (now table) ≡ 256 ⌝ }
+    requires { ⌜ lo ≤ hi ⌝ }
+    requires { ⌜ hi < 256 ⌝ }
+    ensures { λ r. ⌜ Others (now (table .entry)) lo hi r ⌝ }
+{
+    let u = union(table, 0, lo);
+    let v = union(table, lo + 1, hi);
+    let w = union(table, hi + 1, 256);
+    u | v | w
+}
+
+// The same in any order.
+fn others(table: &[u64], x: u8, y: u8) -> u64
+    requires { ⌜ length (now table) ≡ 256 ⌝ }
+    ensures { λ r. ⌜ Others (now (table .entry)) x y r ⌝ }
+{
+    let i = index(x);
+    let j = index(y);
+    if i < j {
+        return others_in_order(table, i, j);
+    }
+    others_in_order(table, j, i)
 }
 
 // Whether the positions up to q are plain (neither optional nor repeating), no end is reported
@@ -384,20 +419,16 @@ fn plain(repeats: u64, optional: u64, top: u64, p: u32, q: u32) -> bool
     q as u64 <= top
 }
 
-// Whether position p admits x, and x alone.
-fn alone(table: &[u64], twice: u64, p: u32, x: u8) -> bool
+// Whether neither `rest` nor the entry of y has bit p.
+fn clear(table: &[u64], rest: u64, p: u32, y: u8) -> bool
     requires { ⌜ length (now table) ≡ 256 ⌝ }
-    requires { ⌜ Shared (now table) twice ⌝ }
-    ensures { λ r. ⌜ Alone (now (table .entry)) p x r ⌝ }
+    ensures { λ r. ⌜ Clear (now (table .entry)) rest p y r ⌝ }
 {
     if 63 < p {
         return false;
     }
-    let k = power(p);
-    if twice & k != 0 {
-        return false;
-    }
-    table[index(x)] & k != 0
+    let e = table[index(y)];
+    (rest | e) & power(p) == 0
 }
 
 fn power(p: u32) -> u64
