@@ -1,26 +1,28 @@
--- What may be passed over in the opening state: bytes that do not leave it, and starts that miss a pair. Assumes nothing.
-use mathlib.Core.Path.{_≡_, refl, _∙_}
+-- What may be passed over: in the opening state bytes that do not leave it and starts that miss a pair, in any state bytes at which it stays. Assumes nothing.
+use mathlib.Core.Path.{_≡_, refl, sym, _∙_}
 use Prim.Native.Nat.{ℕ, _+_, _-_, _≤_, _<_}
 use native.Mathlib.Omega.{arith}
 use mathlib.Core.List.{List}
-use mathlib.Core.Bool.{false, _&&_}
+use mathlib.Core.Bool.{Bool, false, not, _&&_}
 use lib.ListN.{length, getD}
 use lib.Bits.{bitAnd}
 use lib.Dec.{eqb, leb}
 use borrow.Author.Tests.{not-false, eqb-true, eqb-false, leb-true}
 use Rattle.model.proofs.Truth.{not-both}
 use Rattle.looks.specs.Looks.{Missed, leaves, between, same, pairAt}
-use Rattle.looks.proofs.LookLaws.{miss-join}
 use Rattle.plans.specs.declared.Plan.{Plan}
 use Rattle.plans.specs.Plans.{Home, Inside, Paired, Planned}
 use Rattle.stepping.specs.declared.Masks.{Masks}
+use Rattle.words.specs.ForwardStep.{topBit}
+use Rattle.stepping.specs.Stepping.{stepOn}
+use Rattle.stepping.specs.Settling.{Stays}
 use Rattle.stepping.specs.Walking.{Passed}
-use Rattle.stepping.proofs.Turns.{pass-one, pass-missed}
+use Rattle.stepping.proofs.Turns.{pass-one, pass-more, pass-missed}
 use Rattle.stepping.proofs.Steps.{stays}
 use Rattle.stepping.proofs.Pairs.{pair-passes}
 
 -- bytes that do not leave
-pub passes : (t : List ℕ) (m : Masks) (home next : ℕ) → Home (m .repeats) (m .optional) (m .top) home next → (text : List ℕ) (i r : ℕ)
+passes : (t : List ℕ) (m : Masks) (home next : ℕ) → Home (m .repeats) (m .optional) (m .top) home next → (text : List ℕ) (i r : ℕ)
     → Missed (leaves t next text) i (length text) r → Passed t m home text i r
 passes t m home next h text i r g = pass-missed (leaves t next text) (omega arith) one g
   where
@@ -31,13 +33,13 @@ passes t m home next h text i r g = pass-missed (leaves t next text) (omega arit
         pass-one t m home text k p (stays m home next b (h .opens) (h .goes) quiet) (h .silent)
 
 -- where no byte is from lo to hi, none leaves
-pub narrow : (t : List ℕ) (next : ℕ) (text : List ℕ) (lo hi i end r : ℕ) → Inside t next lo hi → Missed (between text lo hi) i end r
+narrow : (t : List ℕ) (next : ℕ) (text : List ℕ) (lo hi i end r : ℕ) → Inside t next lo hi → Missed (between text lo hi) i end r
     → Missed (leaves t next text) i end r
 narrow t next text lo hi i end r o g =
     record { fore = g .fore; within = g .within; none = λ j p q. rw (o .none (getD text j 0) (g .none j p q)) refl }
 
 -- a range of one byte
-pub narrow-one : (t : List ℕ) (next : ℕ) (text : List ℕ) (x i end r : ℕ) → Inside t next x x → Missed (same text x) i end r
+narrow-one : (t : List ℕ) (next : ℕ) (text : List ℕ) (x i end r : ℕ) → Inside t next x x → Missed (same text x) i end r
     → Missed (leaves t next text) i end r
 narrow-one t next text x i end r o g =
     narrow t next text x x i end r o (record { fore = g .fore; within = g .within; none = λ j p q. apart j (g .none j p q) })
@@ -55,19 +57,13 @@ module _ {t : List ℕ} {m : Masks} {p : Plan} {d : ℕ} {text : List ℕ} {i : 
   pub by-table : {r : ℕ} → (p .kind ≡ 0 → ⊥) → Missed (leaves t (p .next) text) i (length text) r → Passed t m d text i r
   by-table {r} k g = rw at-home (passes t m (p .home) (p .next) (pl .home k) text i r g)
 
-  -- first by thirty-twos, at the one byte that leaves
-  pub by-one : {j r : ℕ} → p .kind ≡ 2 → Missed (same text (p .lo)) i (length text) j → Missed (leaves t (p .next) text) j (length text) r
-      → Passed t m d text i r
-  by-one {j} {r} k g g′ =
-      by-table (λ z. omega arith)
-      (miss-join (leaves t (p .next) text) i (length text) j r (narrow-one t (p .next) text (p .lo) i (length text) j (pl .one k) g) g′)
+  -- at the one byte that leaves
+  pub by-one : {r : ℕ} → p .kind ≡ 2 → Missed (same text (p .lo)) i (length text) r → Passed t m d text i r
+  by-one {r} k g = by-table (λ z. omega arith) (narrow-one t (p .next) text (p .lo) i (length text) r (pl .one k) g)
 
   -- or at a range that holds them all
-  pub by-range : {j r : ℕ} → p .kind ≡ 3 → Missed (between text (p .lo) (p .hi)) i (length text) j → Missed (leaves t (p .next) text) j (length text) r
-      → Passed t m d text i r
-  by-range {j} {r} k g g′ =
-      by-table (λ z. omega arith)
-      (miss-join (leaves t (p .next) text) i (length text) j r (narrow t (p .next) text (p .lo) (p .hi) i (length text) j (pl .range k) g) g′)
+  pub by-range : {r : ℕ} → p .kind ≡ 3 → Missed (between text (p .lo) (p .hi)) i (length text) r → Passed t m d text i r
+  by-range {r} k g = by-table (λ z. omega arith) (narrow t (p .next) text (p .lo) (p .hi) i (length text) r (pl .range k) g)
 
   -- by a pair
   pub by-pair : {r : ℕ} → p .kind ≡ 4 → Passed t m 1 text i r → Passed t m d text i r
@@ -78,6 +74,13 @@ module _ {t : List ℕ} {m : Masks} {p : Plan} {d : ℕ} {text : List ℕ} {i : 
 pub is-paired : (t : List ℕ) (m : Masks) (p : Plan) → Planned t (m .repeats) (m .optional) (m .top) p → p .kind ≡ 4
     → Paired t (m .repeats) (m .optional) (m .top) (p .a) (p .b) (p .lo) (p .hi)
 is-paired t m p pl k = pl .pair k .1
+
+-- a byte at which the state stays
+pub stay-on : {t : List ℕ} {m : Masks} {d : ℕ} {text : List ℕ} {i j c : ℕ} {s r : Bool} → Passed t m d text i j → j < length text → c ≡ getD text j 0 → Stays m d (getD t c 0) s
+    → not s ≡ false → r ≡ topBit (m .top) d → r ≡ false → Passed t m d text i (j + 1)
+stay-on {t} {m} {d} {text} {i} {j} {c} {s} {r} p h ec st e er z =
+    let stays : stepOn t m d c ≡ d = st .says (not-false s e) in
+    pass-more p (pass-one t m d text j h (rw ec at stays) (sym er ∙ z))
 
 -- the pair's starts, up to where the text still has its second byte
 pub to-pair : (t : List ℕ) (m : Masks) (a b x y : ℕ) (text : List ℕ) (i r : ℕ) → Paired t (m .repeats) (m .optional) (m .top) a b x y → i ≤ length text

@@ -15,7 +15,7 @@ use Rattle.words.proofs.Settled.{flood-again, flood-home, flood-quiet, home-in,
 use Rattle.stepping.specs.declared.Masks.{Masks}
 use Rattle.stepping.specs.declared.Blocks.{Blocks}
 use Rattle.stepping.specs.Stepping.{stepN}
-use Rattle.stepping.specs.Settling.{BlocksOf, Settled, SettledIs, StepsTo}
+use Rattle.stepping.specs.Settling.{BlocksOf, Settled, SettledIs, StepsTo, Stays}
 
 -- nothing is optional: the step is the move
 pub step-none : (m : Masks) (k d b x : ℕ) → m .optional ≡ 0 → x ≡ move 64 d b (bitAnd b (m .repeats)) k → x ≡ stepN m k d b
@@ -108,8 +108,8 @@ module _ (m : Masks) (q : Blocks) (of : BlocksOf (m .optional) q) {d : ℕ} (s :
     step-plain z = step-still (ap (bitAnd x) z ∙ and-zero-r x)
 
     -- x is the state before
-    pub step-same : x ≡ d → StepsTo m d b d
-    step-same e = settles (sym (s .flooded) ∙ ap washed (sym e) ∙ by-flood)
+    pub stays-where : Stays m d b (eqb x d)
+    stays-where = record { says = λ t. sym (sym (s .flooded) ∙ ap washed (sym (eqb-true x d t)) ∙ by-flood) }
 
     pub step-flood : {r : ℕ} → r ≡ flood 64 x (m .optional) (q .first) (q .last) → StepsTo m d b r
     step-flood {r} e = settles (e ∙ rw (of .first, of .last) by-flood)

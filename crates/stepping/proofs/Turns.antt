@@ -137,6 +137,30 @@ module _ {t : List ℕ} {m : Masks} {text ends₀ ends : List ℕ} {d₀ at₀ n
   pub stroll-over : i₀ < length text → length text ≤ i → Walked t m text ends₀ d₀ at₀ n₀ i₀ (record { d = d; at = at; n = n; i = i }) ends
   stroll-over h s = walked (g .going) h s
 
+-- the same after bytes at which the state stays
+module _ {t : List ℕ} {m : Masks} {text ends₀ ends : List ℕ} {d₀ at₀ n₀ i₀ d at n i j : ℕ}
+    (g : Strolling t m text ends₀ d₀ at₀ n₀ i₀ ends d at n i) (p : Passed t m d text i j) where
+  on : Strolling t m text ends₀ d₀ at₀ n₀ i₀ ends d (at + (j - i)) n j
+  on = record { going = leapt (g .going) p (omega (arith, p .fore)); settled = g .settled }
+
+  pub stay-over : i₀ < length text → j ≡ length text → Walked t m text ends₀ d₀ at₀ n₀ i₀ (record { d = d; at = at + (j - i); n = n; i = j }) ends
+  stay-over h e = stroll-over on h (omega arith)
+
+  module _ {b d′ : ℕ} (h : j ≡ length text → ⊥) (eb : b ≡ getD text j 0) (es : StepsTo m d (getD t b 0) d′) where
+    left : j < length text
+    left = omega (arith, p .within)
+
+    pub stay-passed : {r : Bool} → r ≡ topBit (m .top) d′ → r ≡ false → Strolling t m text ends₀ d₀ at₀ n₀ i₀ ends d′ (at + (j - i) + 1) n (j + 1)
+    stay-passed er z = stroll-passed on left eb es er z
+
+    pub stay-ended : {r : Bool} → r ≡ topBit (m .top) d′ → r ≡ true
+        → Strolling t m text ends₀ d₀ at₀ n₀ i₀ (set ends n (at + (j - i) + 1)) d′ (at + (j - i) + 1) (n + 1) (j + 1)
+    stay-ended er z = stroll-ended on left eb es er z
+
+    pub stay-stopped : {r : Bool} → r ≡ topBit (m .top) d′ → r ≡ false
+        → Walked t m text ends₀ d₀ at₀ n₀ i₀ (record { d = d′; at = at + (j - i) + 1; n = n; i = j + 1 }) ends
+    stay-stopped er z = stroll-stopped on left eb es er z
+
 -- one byte alone
 module _ {t : List ℕ} {m : Masks} {text ends : List ℕ} {s : Spot} {b d′ : ℕ} (room : Room s text ends) (eb : b ≡ getD text (s .i) 0)
     (es : d′ ≡ stepOn t m (s .d) b) where

@@ -28,3 +28,7 @@ pub record SettledIs (m : Masks) (d : ℕ) (r : Bool) : Type 0 where
 pub record StepsTo (m : Masks) (d b r : ℕ) : Type 0 where
   pub is : r ≡ stepN m 1 d b
   pub settles : Settled m r
+
+-- where it says yes, a step leaves the state as it is
+pub record Stays (m : Masks) (d b : ℕ) (r : Bool) : Type 0 where
+  pub says : r ≡ true → stepN m 1 d b ≡ d

@@ -9,7 +9,7 @@ ghost use Rattle.words.specs.ForwardStep as Step;
 ghost use Rattle.plans.specs.Plans.{Paired, Planned};
 ghost use Rattle.stepping.specs.Stepping.{stepN, Scanned};
 ghost use Rattle.stepping.specs.Walking.{Walked, Passed, Room};
-ghost use Rattle.stepping.specs.Settling.{BlocksOf, Settled, SettledIs, StepsTo};
+ghost use Rattle.stepping.specs.Settling.{BlocksOf, Settled, SettledIs, StepsTo, Stays};
 use plans::Plan;
 
 // A rule's masks, and the number of its top position.
@@ -50,8 +50,8 @@ pub fn step(d: u64, b: u64, k: u64, m: Masks) -> u64
 
 // What a walk keeps at hand of the optional positions: the opening state, the bit before each block
 // and the last of each, and where a state outside the opening state touches a block or the bit before
-// one; and whether a position both may be missing and repeats, so that it pays to ask for states that
-// stay. Only speed hangs on the last.
+// one; and whether a position both may be missing and repeats, as in `.*`, so that it pays to pass over
+// bytes at which a state stays. Only speed hangs on the last.
 pub struct Blocks {
     pub home: u64,
     pub first: u64,
@@ -116,8 +116,8 @@ fn step_plain(d: u64, b: u64, m: Masks, q: Blocks) -> u64
     move_home(d, b, m.repeats, q.home)
 }
 
-// One step. It floods only where the moved state touches a block, or the bit before one, and is not
-// the state before the step, since the flood changes nothing elsewhere.
+// One step. It floods only where the moved state touches a block, or the bit before one, since the
+// flood changes nothing elsewhere.
 fn step_over(d: u64, b: u64, m: Masks, q: Blocks) -> u64
     requires { ⌜ BlocksOf (m .optional) q ⌝ }
     requires { ⌜ Settled m d ⌝ }
@@ -126,11 +126,6 @@ fn step_over(d: u64, b: u64, m: Masks, q: Blocks) -> u64
     let x = move_home(d, b, m.repeats, q.home);
     if x & q.touch == 0 {
         return x;
-    }
-    if q.stays {
-        if x == d {
-            return d;
-        }
     }
     words::flood(x, m.optional, q.first, q.last)
 }
@@ -235,6 +230,99 @@ fn walk_over(
     }
 }
 
+// Whether a step leaves the state as it is.
+fn stays_at(d: u64, b: u64, m: Masks, q: Blocks) -> bool
+    requires { ⌜ BlocksOf (m .optional) q ⌝ }
+    requires { ⌜ Settled m d ⌝ }
+    ensures { λ r. ⌜ Stays m d b r ⌝ }
+{
+    let x = move_home(d, b, m.repeats, q.home);
+    x == d
+}
+
+// The place up to which the state stays as it is, and reports no end.
+fn staying(table: &[u64], m: Masks, q: Blocks, d: u64, text: &[u8], i: usize) -> usize
+    requires { ⌜ BlocksOf (m .optional) q ⌝ }
+    requires { ⌜ length (now table) ≡ 256 ⌝ }
+    requires { ⌜ m .top < 64 ⌝ }
+    requires { ⌜ Settled m d ⌝ }
+    requires { ⌜ i ≤ length (now text) ⌝ }
+    ensures { λ r. ⌜ Passed (now (table .entry)) m d (now (text .entry)) i r ⌝ }
+{
+    if words::reports(d, m.top) {
+        return i;
+    }
+    let mut j = i;
+    while j < text.len() {
+        let c = looks::index(text[j]);
+        if !stays_at(d, table[c], m, q) {
+            return j;
+        }
+        j += 1;
+    }
+    j
+}
+
+// The same walk, where bytes at which the state stays are passed over.
+fn walk_staying(
+    table: &[u64],
+    m: Masks,
+    q: Blocks,
+    home: u64,
+    stop: usize,
+    text: &[u8],
+    ends: &mut [u32],
+    s: Spot,
+) -> Spot
+    requires { ⌜ BlocksOf (m .optional) q ⌝ }
+    requires { ⌜ length (now table) ≡ 256 ⌝ }
+    requires { ⌜ m .top < 64 ⌝ }
+    requires { ⌜ Room s (now text) (now ends) ⌝ }
+    requires { ⌜ Settled m (s .d) ⌝ }
+    ensures { λ r. ⌜ Walked (now (table .entry)) m (now (text .entry)) (now (ends .entry)) (s .d) (s .at) (s .n) (s .i) r (now (ends .exit)) ⌝ }
+{
+    let mut d = s.d;
+    let mut at = s.at;
+    let mut n = s.n;
+    let mut i = s.i;
+    while i < text.len() {
+        let j = staying(table, m, q, d, text, i);
+        let gone = (j - i) as u32;
+        let here = at + gone;
+        if j == text.len() {
+            return Spot {
+                d: d,
+                at: here,
+                n: n,
+                i: j,
+            };
+        }
+        let c = looks::index(text[j]);
+        d = step_over(d, table[c], m, q);
+        at = here + 1;
+        i = j + 1;
+        if words::reports(d, m.top) {
+            ends[n] = at;
+            n += 1;
+        } else if d == home {
+            if stop <= i {
+                return Spot {
+                    d: d,
+                    at: at,
+                    n: n,
+                    i: i,
+                };
+            }
+        }
+    }
+    Spot {
+        d: d,
+        at: at,
+        n: n,
+        i: i,
+    }
+}
+
 // One step by the formula, for a state made by hand.
 fn walk_one(table: &[u64], m: Masks, text: &[u8], ends: &mut [u32], s: Spot) -> Spot
     requires { ⌜ length (now table) ≡ 256 ⌝ }
@@ -288,6 +376,9 @@ fn walk(
         if q.touch == 0 {
             return walk_plain(table, m, q, home, stop, text, ends, s);
         }
+        if q.stays {
+            return walk_staying(table, m, q, home, stop, text, ends, s);
+        }
         return walk_over(table, m, q, home, stop, text, ends, s);
     }
     walk_one(table, m, text, ends, s)
@@ -336,12 +427,10 @@ fn pass(table: &[u64], m: Masks, p: Plan, d: u64, text: &[u8], i: usize) -> usiz
         return i;
     }
     if kind == plans::BY_BYTE {
-        let j = looks::skim_same(text, p.lo, i);
-        return looks::crawl_leaving(table, p.next, text, j);
+        return looks::find_same(text, p.lo, i, text.len());
     }
     if kind == plans::BY_RANGE {
-        let j = looks::skim_between(text, p.lo, p.hi, i);
-        return looks::crawl_leaving(table, p.next, text, j);
+        return looks::find_between(text, p.lo, p.hi, i, text.len());
     }
     if kind == plans::BY_PAIR {
         return pass_pair(table, m, p.a, p.b, p.lo, p.hi, text, i);

@@ -14,20 +14,14 @@ returns-2 c = search pass-none
 returns-3 : tie.Need-returns-3
 returns-3 c = search pass-none
 
-skim-same-requires : tie.Need-skim-same-requires
-skim-same-requires c κs = search needs
-
-crawl-leaving-requires : tie.Need-crawl-leaving-requires
-crawl-leaving-requires c κs = search needs
+find-same-requires : tie.Need-find-same-requires
+find-same-requires c κs = search needs
 
 returns-4 : tie.Need-returns-4
 returns-4 c = search by-one
 
-skim-between-requires : tie.Need-skim-between-requires
-skim-between-requires c κs = search needs
-
-crawl-leaving-requires-2 : tie.Need-crawl-leaving-requires-2
-crawl-leaving-requires-2 c κs = search needs
+find-between-requires : tie.Need-find-between-requires
+find-between-requires c κs = search needs
 
 returns-5 : tie.Need-returns-5
 returns-5 c = search by-range
@@ -51,11 +45,9 @@ pass-spec =
     returns
     returns-2
     returns-3
-    skim-same-requires
-    crawl-leaving-requires
+    find-same-requires
     returns-4
-    skim-between-requires
-    crawl-leaving-requires-2
+    find-between-requires
     returns-5
     pass-pair-requires
     returns-6

@@ -1,5 +1,5 @@
 -- `stepping::step_over` meets its contract. Its laws are in this crate's `proofs/`; `search LAW` finds a law's premises in `c`. Assumes nothing.
-use Rattle.stepping.proofs.Steps.{has-home, step-still, step-same, step-flood}
+use Rattle.stepping.proofs.Steps.{has-home, step-still, step-flood}
 use borrow.Author.Needs.{needs}
 use Rattle.stepping.proofs.step_over.Statement.{statement}
 use Rattle.stepping.proofs.step_over.Tie as tie
@@ -14,14 +14,11 @@ move-home-requires c κs = search has-home
 returns : tie.Need-returns
 returns c = search step-still
 
-returns-2 : tie.Need-returns-2
-returns-2 c = search step-same
-
 flood-requires : tie.Need-flood-requires
 flood-requires c κs = search needs
 
-returns-3 : tie.Need-returns-3
-returns-3 c = search step-flood
+returns-2 : tie.Need-returns-2
+returns-2 c = search step-flood
 
 pub step-over-spec : {M : Type 1} → statement M
-step-over-spec = tie.close (tie.spec move-home-requires returns returns-2 flood-requires returns-3)
+step-over-spec = tie.close (tie.spec move-home-requires returns flood-requires returns-2)

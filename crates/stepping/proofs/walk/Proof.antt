@@ -9,12 +9,13 @@ use Rattle.stepping.proofs.is_settled.Reads as is-settled-reads
 use Rattle.stepping.proofs.walk_one.Reads as walk-one-reads
 use Rattle.stepping.proofs.walk_over.Reads as walk-over-reads
 use Rattle.stepping.proofs.walk_plain.Reads as walk-plain-reads
+use Rattle.stepping.proofs.walk_staying.Reads as walk-staying-reads
 
 is-settled-requires : tie.Need-is-settled-requires
 is-settled-requires c κs = search needs
 
 walk-plain-requires : tie.Need-walk-plain-requires
-walk-plain-requires c κs = let s = c .before .before .before .before .before .before .before .before in (s .pre .0, (c .before .if2 .taken, (s .pre .1 .0, (s .pre .1 .1 .0, (s .pre .1 .1 .1, settled-by (c .before .before .before .before .is-settled .ensures) (c .before .before .before .if1 .taken))))))
+walk-plain-requires c κs = (search needs, (search needs, (search needs, (search needs, (search needs, search settled-by)))))
 
 same-length : tie.Need-same-length
 same-length c = search needs
@@ -22,8 +23,8 @@ same-length c = search needs
 returns : tie.Need-returns
 returns c = search needs
 
-walk-over-requires : tie.Need-walk-over-requires
-walk-over-requires c κs = let s = c .before .before .before .before .before .before .before .before in (s .pre .0, (s .pre .1 .0, (s .pre .1 .1 .0, (s .pre .1 .1 .1, settled-by (c .before .before .before .before .is-settled .ensures) (c .before .before .before .if1 .taken)))))
+walk-staying-requires : tie.Need-walk-staying-requires
+walk-staying-requires c κs = (search needs, (search needs, (search needs, (search needs, search settled-by))))
 
 same-length-2 : tie.Need-same-length-2
 same-length-2 c = search needs
@@ -31,14 +32,23 @@ same-length-2 c = search needs
 returns-2 : tie.Need-returns-2
 returns-2 c = search needs
 
-walk-one-requires : tie.Need-walk-one-requires
-walk-one-requires c κs = search needs
+walk-over-requires : tie.Need-walk-over-requires
+walk-over-requires c κs = (search needs, (search needs, (search needs, (search needs, search settled-by))))
 
 same-length-3 : tie.Need-same-length-3
 same-length-3 c = search needs
 
 returns-3 : tie.Need-returns-3
 returns-3 c = search needs
+
+walk-one-requires : tie.Need-walk-one-requires
+walk-one-requires c κs = search needs
+
+same-length-4 : tie.Need-same-length-4
+same-length-4 c = search needs
+
+returns-4 : tie.Need-returns-4
+returns-4 c = search needs
 
 pub walk-spec : {M : Type 1} → statement M
 walk-spec =
@@ -48,9 +58,12 @@ walk-spec =
     walk-plain-requires
     same-length
     returns
-    walk-over-requires
+    walk-staying-requires
     same-length-2
     returns-2
-    walk-one-requires
+    walk-over-requires
     same-length-3
-    returns-3)
+    returns-3
+    walk-one-requires
+    same-length-4
+    returns-4)
