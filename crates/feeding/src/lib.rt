@@ -82,7 +82,7 @@ fn code_through(
     run_through(table, masks, plan, g, &t[..n], ends)
 }
 
-// After one token of a piece: the state, how far the piece is read, and whether the rest of it is held
+// After some bytes of a piece: the state, how far the piece is read, and whether the rest of it is held
 // back.
 pub struct Next {
     pub state: State,
@@ -90,10 +90,10 @@ pub struct Next {
     pub held: bool,
 }
 
-// A run so long is stepped over where it stands: it is not worth a copy.
+// A run of so many bytes is stepped over where it stands: a copy would cost more than it saves.
 const LONG: usize = 1024;
 
-// Whether the run from i to e is: it is long, or all the rest. Only speed hangs on the choice.
+// Whether the run from i to e is: it has so many, or is all the rest. Only speed hangs on the choice.
 fn alone(i: usize, e: usize, len: usize) -> bool
     requires { ⌜ i < len ⌝ }
     requires { ⌜ i ≤ e ⌝ }
@@ -105,8 +105,8 @@ fn alone(i: usize, e: usize, len: usize) -> bool
     LONG <= e - i
 }
 
-// As many bytes as a room takes: a part of a piece with references is decoded there first, and then
-// stepped over in one run.
+// As many bytes as a room takes: a part of a piece with references is decoded there first, and stepped
+// over in one run, since many short runs are slow.
 const ROOM: usize = 4096;
 
 // The end of the part that begins at i.

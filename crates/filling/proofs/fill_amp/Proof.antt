@@ -32,7 +32,7 @@ put-utf8-requires : tie.Need-put-utf8-requires
 put-utf8-requires c κs = search code-fits
 
 add-after : tie.Need-add-after
-add-after c = search code-after
+add-after c = search (code-after, needs)
 
 add-end : tie.Need-add-end
 add-end c = search code-end
