@@ -1,27 +1,26 @@
--- A piece with nothing held: its tokens, and all of it. On plain values. Assumes nothing.
+-- A piece with nothing held: part by part, and all of it. On plain values. Assumes nothing.
 use mathlib.Core.Path.{_≡_, refl, sym, ap, subst, _∙_}
-use mathlib.Core.Bool.{true, false, true≢false}
-use mathlib.Core.List.{List, [], _∷_, _++_, append-nil, append-assoc}
-use Prim.Native.Nat.{ℕ, suc, _+_, _-_, _^_, _≤_, _<_}
-use native.Mathlib.Numerals.{add-one}
+use mathlib.Core.Bool.{Bool, true, false, true≢false}
+use mathlib.Core.List.{List, [], _++_, append-nil, append-assoc}
+use Prim.Native.Nat.{ℕ, _+_, _-_, _^_, _≤_, _<_}
 use native.Mathlib.Omega.{arith}
-use lib.ListN.{length, take, drop, getD, length-append, length-drop, drop-of-length-le}
-use lib.Seq.{length-sets, sets-eq, drop-cons, drop-drop, length-take-le, take-all, take-append-seam}
+use lib.Dec.{leb, ltb}
+use lib.ListN.{length, take, drop, length-append, length-drop, length-take, drop-of-length-le, take-append-drop}
+use lib.Seq.{length-sets, sets-eq, drop-drop, drop-append-le, length-take-le, take-all, take-append-seam}
 use borrow.Rule.Slice.PartMut.{midOf}
-use Rattle.model.specs.References.{formLimit, none, referenceAt, utf8, canGrow, heldTail, letOut}
-use Rattle.model.proofs.Decoding.{utf8-four}
-use Rattle.references.specs.declared.Reference.{Reference}
-use Rattle.references.specs.declared.Reference.the-variants.{Code, Plain, Open}
-use Rattle.references.specs.Reader.{codeLimit, reading, Moves, ReadIs}
+use borrow.Author.Tests.{leb-true, ltb-false}
+use Rattle.model.specs.References.{formLimit, utf8, heldTail, letOut}
+use Rattle.model.proofs.Decoding.{utf8-four, held-cut, text-cut, held-length}
 use Rattle.references.specs.Decoder.{Put}
-use Rattle.references.proofs.Cuts.{letOut-reference, held-reference, letOut-none, held-none, held-open, all-held}
-use Rattle.references.proofs.Readings.{code-told, plain-told, open-told}
+use Rattle.references.proofs.Cuts.{all-held}
 use Rattle.amps.specs.Amps.{Verbatim}
+use Rattle.filling.specs.declared.Filled.{Filled}
+use Rattle.filling.specs.Filling.{FilledIs}
 use Rattle.stepping.specs.declared.Masks.{Masks}
 use Rattle.feeding.specs.declared.State.{State}
 use Rattle.feeding.specs.declared.Next.{Next}
 use Rattle.stepping.specs.Stepping.{endsIn}
-use Rattle.feeding.specs.Feeding.{textOf, tailOf, Stepped, TokenIs, RestIs}
+use Rattle.feeding.specs.Feeding.{textOf, tailOf, Stepped, PartEnd, TokenIs, RestIs}
 use Rattle.feeding.proofs.Steps.{stepped-none, stepped-append}
 
 -- ---- `code_through`: the bytes stand in a buffer of four
@@ -39,104 +38,104 @@ module _ (code : ℕ) (l l′ : List ℕ) (n : ℕ) (long : length l ≡ 4) (p :
   pub coded : (t : List ℕ) (m : Masks) (g : State) (ends : List ℕ) (r : State) (ends′ : List ℕ) → Stepped t m g (take n l′) ends r ends′ → Stepped t m g (utf8 code) ends r ends′
   coded t m g ends r ends′ x = subst (λ (b : List ℕ). Stepped t m g b ends r ends′) code-bytes x
 
--- ---- `token`
+-- ---- `alone`
+
+pub long-run : (i e : ℕ) → leb 1024 (e - i) ≡ true → i < e
+long-run i e t = let l = leb-true 1024 (e - i) t in omega arith
+
+-- ---- `room_through`, `token`
 
 module _ (t : List ℕ) (m : Masks) (g : State) (piece : List ℕ) (i : ℕ) (ends : List ℕ) (h : i < length piece) where
-  rest-is : midOf i (length piece - i) piece ≡ drop i piece
-  rest-is = take-all (length piece - i) (drop i piece) (omega (arith, length-drop i piece))
+  -- a part, decoded into a room
+  module _ (k : ℕ) (p : PartEnd i (length piece) k) (room : List ℕ) (f : Filled) (room′ : List ℕ) (x : FilledIs (midOf i (k - i) piece) room f room′) where
+    abbrev part : List ℕ
+    part = take (k - i) (drop i piece)
 
-  part-is : (n : ℕ) → midOf i (i + n - i) piece ≡ take n (drop i piece)
-  part-is n = let e : i + n - i ≡ n = omega arith in ap (λ (j : ℕ). take j (drop i piece)) e
+    part-long : length part ≡ k - i
+    part-long = let a = p .fits in length-take-le (k - i) (drop i piece) (omega (arith, length-drop i piece))
+
+    part-rest : part ++ drop k piece ≡ drop i piece
+    part-rest =
+        let a = p .after in
+        let e : i + (k - i) ≡ k = omega arith in
+        ap (λ (l : List ℕ). part ++ l) (sym (drop-drop (k - i) i piece ∙ ap (λ (j : ℕ). drop j piece) e)) ∙ take-append-drop (k - i) (drop i piece)
+
+    -- what the part holds back, and the rest of the piece
+    still : heldTail formLimit part ++ drop k piece ≡ drop (i + f .kept) piece
+    still =
+        ap (λ (l : List ℕ). l ++ drop k piece) (sym (x .holds))
+        ∙ sym (drop-append-le (f .kept) part (drop k piece) (x .fits))
+        ∙ ap (drop (f .kept)) part-rest
+        ∙ drop-drop (f .kept) i piece
+
+    abbrev front : List ℕ
+    front = midOf 0 (f .written - 0) room′
+
+    front-is : front ≡ letOut formLimit part
+    front-is = let e : f .written - 0 ≡ f .written = omega arith in ap (λ (n : ℕ). take n room′) e ∙ x .gives
+
+    out-part : textOf (drop i piece) ≡ front ++ textOf (drop (i + f .kept) piece)
+    unfolding textOf
+    out-part =
+        ap (letOut formLimit) (sym part-rest)
+        ∙ text-cut formLimit part (drop k piece)
+        ∙ ap (λ (l : List ℕ). letOut formLimit part ++ letOut formLimit l) still
+        ∙ ap (λ (l : List ℕ). l ++ letOut formLimit (drop (i + f .kept) piece)) (sym front-is)
+
+    held-part : tailOf (drop i piece) ≡ tailOf (drop (i + f .kept) piece)
+    unfolding tailOf
+    held-part = ap (heldTail formLimit) (sym part-rest) ∙ held-cut formLimit part (drop k piece) ∙ ap (heldTail formLimit) still
+
+    within : i + f .kept ≤ k
+    within = let a = p .after in omega (arith, x .fits, part-long)
+
+    room-token : (held : Bool) → (held ≡ false → i < i + f .kept) → (held ≡ true → tailOf (drop (i + f .kept) piece) ≡ drop (i + f .kept) piece)
+        → (s : State) (ends′ : List ℕ) → Stepped t m g front ends s ends′ → TokenIs t m g piece i ends (record { state = s; read = i + f .kept; held = held }) ends′
+    room-token held go all s ends′ y = record {
+      gives = front;
+      steps = y;
+      lets-out = out-part;
+      holds = held-part;
+      fits = let a = p .fits in omega (arith, within);
+      few = let c = x .few in omega (arith, length-take (f .written - 0) room′);
+      moves = go;
+      all-held = all;
+    }
+
+    pub room-more : k < length piece → (s : State) (ends′ : List ℕ) → Stepped t m g front ends s ends′
+        → TokenIs t m g piece i ends (record { state = s; read = i + f .kept; held = false }) ends′
+    room-more l =
+        room-token false
+        (λ e. omega (arith, p .full l, part-long, held-length formLimit part, ap length (x .holds), length-drop (f .kept) part))
+        (λ e. absurd (true≢false (sym e)))
+
+    held-last : length piece ≤ k → tailOf (drop i piece) ≡ drop (i + f .kept) piece
+    unfolding tailOf
+    held-last l =
+        let e : part ≡ drop i piece = take-all (k - i) (drop i piece) (omega (arith, length-drop i piece)) in
+        ap (heldTail formLimit) (sym e) ∙ sym (x .holds) ∙ ap (drop (f .kept)) e ∙ drop-drop (f .kept) i piece
+
+    pub room-last : length piece ≤ k → (s : State) (ends′ : List ℕ) → Stepped t m g front ends s ends′
+        → TokenIs t m g piece i ends (record { state = s; read = i + f .kept; held = ltb (i + f .kept) k }) ends′
+    room-last l =
+        room-token (ltb (i + f .kept) k)
+        (λ e. let b = ltb-false (i + f .kept) k e in let a = p .after in omega arith)
+        (λ e. sym held-part ∙ held-last l)
 
   -- a run of bytes that go out as they came
-  pub token-run : (e : ℕ) → Verbatim piece i e → i < e → (r : State) (ends′ : List ℕ) → Stepped t m g (midOf i (e - i) piece) ends r ends′
+  pub token-run : (e : ℕ) → Verbatim piece i e → (long : Bool) → (long ≡ true → i < e) → long ≡ true → (r : State) (ends′ : List ℕ) → Stepped t m g (midOf i (e - i) piece) ends r ends′
       → TokenIs t m g piece i ends (record { state = r; read = e; held = false }) ends′
   unfolding textOf tailOf
-  token-run e v l r ends′ x = record {
+  token-run e v long some l r ends′ x = record {
     gives = take (e - i) (drop i piece);
     steps = x;
     lets-out = v .lets-out;
     holds = v .holds;
     fits = v .fits;
     few = let f = v .fits in omega (arith, length-take-le (e - i) (drop i piece) (omega (arith, length-drop i piece)));
-    moves = λ e. l;
+    moves = λ e. some l;
     all-held = λ e. absurd (true≢false (sym e));
   }
-
-  module _ (r : Reference) (x : ReadIs (midOf i (length piece - i) piece) r) where
-    read-rest : r ≡ reading formLimit (drop i piece)
-    read-rest = x .is ∙ ap (reading formLimit) rest-is
-
-    module _ (code k : ℕ) (e : r ≡ Code code k) where
-      moving : Moves (drop i piece) (Code code k)
-      moving = subst (λ (l : List ℕ). Moves l (Code code k)) rest-is (subst (Moves (midOf i (length piece - i) piece)) e (x .moves))
-
-      pub code-steps : (code < codeLimit) × (i + k ≤ length piece) × (length (utf8 code) ≤ k)
-      code-steps =
-          let q = moving in
-          let q₁ = q .1 in
-          (q .3, omega (arith, length-drop i piece), q .2)
-
-      -- a legal reference
-      pub token-code : (s : State) (ends′ : List ℕ) → Stepped t m g (utf8 code) ends s ends′ → TokenIs t m g piece i ends (record { state = s; read = i + k; held = false }) ends′
-      unfolding textOf tailOf
-      token-code s ends′ y =
-          let q = moving in
-          let q₀ = q .0 in
-          let q₁ = q .1 in
-          let q₂ = q .2 in
-          let f = code-told formLimit (drop i piece) code k (sym e ∙ read-rest) in
-          record {
-            gives = utf8 code;
-            steps = y;
-            lets-out = letOut-reference formLimit (drop i piece) code k f ∙ ap (λ (b : List ℕ). utf8 code ++ letOut formLimit b) (drop-drop k i piece);
-            holds = held-reference formLimit (drop i piece) code k f ∙ ap (heldTail formLimit) (drop-drop k i piece);
-            fits = omega (arith, length-drop i piece);
-            few = omega arith;
-            moves = λ e. omega arith;
-            all-held = λ e. absurd (true≢false (sym e));
-          }
-
-    -- a `&` that begins no form
-    pub token-plain : r ≡ Plain → (s : State) (ends′ : List ℕ) → Stepped t m g (midOf i (i + 1 - i) piece) ends s ends′
-        → TokenIs t m g piece i ends (record { state = s; read = i + 1; held = false }) ends′
-    unfolding textOf tailOf
-    token-plain e s ends′ y =
-        let f = plain-told formLimit (drop i piece) (sym e ∙ read-rest) in
-        let c = drop-cons piece i 0 h in
-        let one : take 1 (drop i piece) ≡ getD piece i 0 ∷ [] = ap (take 1) c in
-        let gr : canGrow formLimit (getD piece i 0 ∷ drop (suc i) piece) ≡ false = ap (canGrow formLimit) (sym c) ∙ f .1 in
-        let rf : referenceAt formLimit (getD piece i 0 ∷ drop (suc i) piece) ≡ none = ap (referenceAt formLimit) (sym c) ∙ f .0 in
-        record {
-          gives = getD piece i 0 ∷ [];
-          steps = subst (λ (b : List ℕ). Stepped t m g b ends s ends′) (part-is 1 ∙ one) y;
-          lets-out =
-              ap (letOut formLimit) c
-              ∙ letOut-none formLimit (getD piece i 0) (drop (suc i) piece) gr rf
-              ∙ ap (λ (j : ℕ). getD piece i 0 ∷ letOut formLimit (drop j piece)) (sym (add-one i));
-          holds = ap (heldTail formLimit) c ∙ held-none formLimit (getD piece i 0) (drop (suc i) piece) gr ∙ ap (λ (j : ℕ). heldTail formLimit (drop j piece)) (sym (add-one i));
-          fits = omega arith;
-          few = omega arith;
-          moves = λ e. omega arith;
-          all-held = λ e. absurd (true≢false (sym e));
-        }
-
-    -- all the rest can still grow
-    pub token-open : r ≡ Open → TokenIs t m g piece i ends (record { state = g; read = i; held = true }) ends
-    unfolding tailOf
-    token-open e =
-        let f = open-told formLimit (drop i piece) (sym e ∙ read-rest) in
-        let c = drop-cons piece i 0 h in
-        record {
-          gives = [];
-          steps = stepped-none t m g ends;
-          lets-out = refl;
-          holds = refl;
-          fits = omega arith;
-          few = omega arith;
-          moves = λ e. absurd (true≢false e);
-          all-held = λ e. ap (heldTail formLimit) c ∙ held-open formLimit (getD piece i 0) (drop (suc i) piece) (ap (canGrow formLimit) (sym c) ∙ f .1) ∙ sym c;
-        }
 
 -- ---- `scan_rest`
 

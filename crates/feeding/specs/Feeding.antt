@@ -31,6 +31,17 @@ pub record Stepped (t : List ℕ) (m : Masks) (g : State) (text ends : List ℕ)
   pub long : length ends′ ≡ length ends
   pub list : ends′ ≡ sets ends (g .count) (endsIn t m (g .d) (g .at) text)
 
+-- as many bytes as a room takes
+abbrev pub roomSize : ℕ
+roomSize = 4096
+
+-- `part_end`: a part is as long as that, or up to the end
+pub record PartEnd (i len r : ℕ) : Type 0 where
+  pub after : i < r
+  pub fits : r ≤ len
+  pub small : r ≤ i + roomSize
+  pub full : r < len → r ≡ i + roomSize
+
 -- `token`: what is let out, and what is left
 pub record TokenIs (t : List ℕ) (m : Masks) (g : State) (piece : List ℕ) (i : ℕ) (ends : List ℕ) (r : Next) (ends′ : List ℕ) : Type 0 where
   pub gives : List ℕ

@@ -1,17 +1,17 @@
 // A piece of a plan, after held bytes: what it lets out is decoded and stepped over, and what it holds
 // back is kept. At any table and masks.
 ghost use mathlib.Core.Path.{_≡_};
+ghost use mathlib.Core.Bool.{true};
 ghost use Prim.Native.Nat.{_+_, _<_, _≤_, _^_};
 ghost use lib.ListN.{length};
 ghost use Rattle.model.specs.References.{utf8};
 ghost use Rattle.plans.specs.Plans.{Planned};
 ghost use Rattle.references.specs.Reader.{codeLimit};
 ghost use Rattle.references.specs.Crosses.{HeldFine};
-ghost use Rattle.feeding.specs.Feeding.{Stepped, TokenIs, RestIs, RestFed, FedIs};
+ghost use Rattle.feeding.specs.Feeding.{Stepped, PartEnd, TokenIs, RestIs, RestFed, FedIs};
 use plans::Plan;
 use references::Across;
 use references::Held;
-use references::Reference;
 use stepping::Masks;
 
 // Where a call stands: the states, the count of decoded bytes, and the count of ends that it has stored.
@@ -82,7 +82,7 @@ fn code_through(
     run_through(table, masks, plan, g, &t[..n], ends)
 }
 
-// After one token of a piece: the state, how far the piece is read, and whether the rest of it is held
+// After some bytes of a piece: the state, how far the piece is read, and whether the rest of it is held
 // back.
 pub struct Next {
     pub state: State,
@@ -90,8 +90,77 @@ pub struct Next {
     pub held: bool,
 }
 
-// One token of a piece, with nothing held: a run of bytes that go out as they came, a reference, or a
-// `&` that begins none; or all the rest, if it can still grow.
+// A run of so many bytes is stepped over where it stands: a copy would cost more than it saves.
+const LONG: usize = 1024;
+
+// Whether the run from i to e is: it has so many, or is all the rest. Only speed hangs on the choice.
+fn alone(i: usize, e: usize, len: usize) -> bool
+    requires { ⌜ i < len ⌝ }
+    requires { ⌜ i ≤ e ⌝ }
+    ensures { λ r. ⌜ (r ≡ true → i < e) ⌝ }
+{
+    if e == len {
+        return true;
+    }
+    LONG <= e - i
+}
+
+// As many bytes as a room takes: a part of a piece with references is decoded there first, and stepped
+// over in one run, since many short runs are slow.
+const ROOM: usize = 4096;
+
+// The end of the part that begins at i.
+fn part_end(i: usize, len: usize) -> usize
+    requires { ⌜ i < len ⌝ }
+    ensures { λ r. ⌜ PartEnd i len r ⌝ }
+{
+    if len - i <= ROOM {
+        return len;
+    }
+    i + ROOM
+}
+
+// A part of a piece, with nothing held, through a room. What the part holds back begins the next one,
+// and is held back if the piece ends there.
+fn room_through(
+    table: &[u64],
+    masks: Masks,
+    plan: Plan,
+    g: State,
+    piece: &[u8],
+    i: usize,
+    ends: &mut [u32],
+) -> Next
+    requires { ⌜ length (now table) ≡ 256 ⌝ }
+    requires { ⌜ masks .top < 64 ⌝ }
+    requires { ⌜ i < length (now piece) ⌝ }
+    requires { ⌜ g .count + length (now piece) ≤ length (now ends) + i ⌝ }
+    requires { ⌜ g .at + length (now piece) < 2 ^ 32 + i ⌝ }
+    requires { ⌜ Planned (now table) (masks .repeats) (masks .optional) (masks .top) plan ⌝ }
+    ensures { λ r. ⌜ TokenIs (now (table .entry)) masks g (now (piece .entry)) i (now (ends .entry)) r (now (ends .exit)) ⌝ }
+{
+    let k = part_end(i, piece.len());
+    let mut room = [0u8; ROOM];
+    let f = filling::fill(&piece[i..k], &mut room);
+    let n = f.written;
+    let s = run_through(table, masks, plan, g, &room[0..n], ends);
+    let after = i + f.kept;
+    if k < piece.len() {
+        return Next {
+            state: s,
+            read: after,
+            held: false,
+        };
+    }
+    Next {
+        state: s,
+        read: after,
+        held: after < k,
+    }
+}
+
+// Some bytes of a piece, with nothing held: a run that goes out as it came, or else a part through a
+// room.
 fn token(
     table: &[u64],
     masks: Masks,
@@ -110,7 +179,7 @@ fn token(
     ensures { λ r. ⌜ TokenIs (now (table .entry)) masks g (now (piece .entry)) i (now (ends .entry)) r (now (ends .exit)) ⌝ }
 {
     let e = amps::verbatim(piece, i);
-    if i < e {
+    if alone(i, e, piece.len()) {
         let s = run_through(table, masks, plan, g, &piece[i..e], ends);
         return Next {
             state: s,
@@ -118,34 +187,7 @@ fn token(
             held: false,
         };
     }
-    let found = references::read_reference(&piece[i..]);
-    match found {
-        Reference::Code(code, k) => {
-            let s = code_through(table, masks, plan, g, code, ends);
-            let after = i + k;
-            return Next {
-                state: s,
-                read: after,
-                held: false,
-            };
-        }
-        Reference::Plain => {
-            let after = i + 1;
-            let s = run_through(table, masks, plan, g, &piece[i..after], ends);
-            return Next {
-                state: s,
-                read: after,
-                held: false,
-            };
-        }
-        Reference::Open => {
-            return Next {
-                state: g,
-                read: i,
-                held: true,
-            };
-        }
-    }
+    room_through(table, masks, plan, g, piece, i, ends)
 }
 
 // After the rest of a piece: the state, and from where on the piece is held back.

@@ -342,7 +342,7 @@ fn copy_blocks(raw: &[u8], out: &mut [u8]) -> usize
 }
 
 // Copies the bytes before the first `&`, or all of them, to the front of `out`, and returns how many.
-fn copy_run(raw: &[u8], out: &mut [u8]) -> usize
+pub fn copy_run(raw: &[u8], out: &mut [u8]) -> usize
     requires { ⌜ length (now raw) ≤ length (now out) ⌝ }
     ensures { λ r. ⌜ RunCopied (now (raw .entry)) (now (out .entry)) r (now (out .exit)) ⌝ }
 {
