@@ -1,7 +1,7 @@
 -- The loops over the windows, over the tables of a list of positions: what is left to do from the present window on leads to the whole. And the end of a
 -- search, where the rest of the starts comes from a backward pass. Assumes nothing.
 use mathlib.Core.Path.{_≡_, refl, sym, ap, subst, _∙_}
-use mathlib.Core.Bool.{Bool, true, false}
+use mathlib.Core.Bool.{Bool, true, false, not}
 use mathlib.Core.List.{List}
 use Prim.Native.Nat.{ℕ, suc, _+_, _-_, _*_, _≤_, _<_}
 use native.Mathlib.Nat.{zero-add}
@@ -9,19 +9,20 @@ use native.Mathlib.Numerals.{add-one}
 use native.Mathlib.Omega.{arith}
 use lib.ListN.{length, getD, set, length-set}
 use lib.Seq.{sets, sets-eq}
+use borrow.Author.Tests.{not-false}
 use Rattle.model.specs.Occurrence.{Position, shortest, consIf, isStart, starts}
 use Rattle.model.specs.WindowSearch.{windowAt, shift, windowsFrom, windows}
 use Rattle.model.proofs.Windows.{windows-next, windows-stop}
 use Rattle.windows.specs.declared.Seen.{Seen}
-use Rattle.windows.specs.Reading.{SeenIs, startsBack, RestFine, WrittenIs}
+use Rattle.windows.specs.Reading.{SeenIs, QuietIs, startsBack, RestFine, WrittenIs}
 use Rattle.windows.proofs.Reversed.{back-means}
 use Rattle.searches.specs.declared.Rule.{Rule}
 use Rattle.searches.specs.declared.Part.{Part}
 use Rattle.searches.specs.declared.Tried.{Tried}
 use Rattle.searches.specs.declared.Tried.the-variants.{Start, Empty}
-use Rattle.searches.specs.Searching.{Mirrors, RuleOf, TryFits, TryMeans, TriedIs, TriesIs, restStarts, Rest, PartIs, SearchFits, SearchedIs}
+use Rattle.searches.specs.Searching.{RuleFits, Mirrors, RuleOf, TryFits, TryMeans, TriedIs, UnknownIs, TriesIs, restStarts, SkimmedIs, Rest, PartIs, SearchFits, SearchedIs}
 use Rattle.searches.proofs.Rests.{rest-all, rest-back, rest-move}
-use Rattle.searches.proofs.Tries.{seen-shift, unknown-shift, unknown-missed}
+use Rattle.searches.proofs.Tries.{seen-shift, seen-missed, unknown-shift, unknown-missed}
 
 -- ---- the sequence of windows
 
@@ -30,6 +31,11 @@ module _ (ps : List Position) (reversed : List ℕ) (rule : Rule) (text : List �
   next-window : {j : ℕ} → w + rule .shortest ≤ length text → j ≡ shift ps (windowAt ps text w)
       → length (windowsFrom (suc (length text)) ps text w) ≡ suc (length (windowsFrom (suc (length text)) ps text (w + j)))
   next-window h q = ap length (windows-next ps (of .inhabited) (of .some) text w (omega (arith, of .size))) ∙ rw q
+
+  -- the starts from w on, by those from the next window on
+  next-starts : {j : ℕ} → w + rule .shortest ≤ length text → j ≡ shift ps (windowAt ps text w) → {b : Bool} → isStart ps text w ≡ b
+      → restStarts ps text w ≡ consIf b w (restStarts ps text (w + j))
+  next-starts h q e = rest-move ps (of .inhabited) (of .some) text w (omega (arith, of .size)) ∙ rw (q, e)
 
   no-window : length text < w + rule .shortest → length (windowsFrom (suc (length text)) ps text w) ≡ 0
   no-window h = ap length (windows-stop ps (of .inhabited) (of .some) text w (omega (arith, of .size)))
@@ -57,13 +63,13 @@ module _ (reversed : List ℕ) (rule : Rule) (text : List ℕ) (w₀ : ℕ) wher
     }
 
     -- the short way: the last byte stands at no position
-    pub try-quick : {b : ℕ} → w + rule .shortest ≤ length text → 1 ≤ rule .shortest → b ≡ getD text (w + rule .shortest - 1) 0 → getD reversed b 0 ≡ 0
+    pub try-quick : {r : Bool} → w + rule .shortest ≤ length text → 1 ≤ rule .shortest → UnknownIs reversed (rule .shortest) text w r → r ≡ true
         → Trying reversed rule text w₀ (w + rule .shortest) (k + 1)
-    try-quick h m eb z = record {
+    try-quick h m u e = record {
       within = h;
       few = omega (arith, g .few);
       rest = λ ps of.
-          let n = next-window ps reversed rule text of w h (unknown-shift ps reversed rule text w of h eb z) in
+          let n = next-window ps reversed rule text of w h (unknown-shift ps reversed rule text w of h (u .says e)) in
           omega (arith, g .rest ps of);
     }
 
@@ -72,6 +78,41 @@ module _ (reversed : List ℕ) (rule : Rule) (text : List ℕ) (w₀ : ℕ) wher
       few = omega (arith, g .few, g .within);
       means = λ ps of. let n = no-window ps reversed rule text of w h in omega (arith, g .rest ps of);
     }
+
+-- ---- windows passed over
+
+module _ (reversed : List ℕ) (rule : Rule) (text : List ℕ) (w₀ : ℕ) where
+  pub skim-begun : w₀ ≤ length text → SkimmedIs reversed rule text w₀ w₀ 0
+  skim-begun h = record { within = h; few = omega arith; tries = λ ps of. omega arith; none = λ ps of. refl }
+
+  module _ {w k : ℕ} (g : SkimmedIs reversed rule text w₀ w k) where
+    -- one more that is shifted by its size, where no occurrence starts
+    skim-on : w + rule .shortest ≤ length text → 1 ≤ rule .shortest
+        → ((ps : List Position) → Mirrors ps reversed rule → (rule .shortest ≡ shift ps (windowAt ps text w)) × (isStart ps text w ≡ false))
+        → SkimmedIs reversed rule text w₀ (w + rule .shortest) (k + 1)
+    skim-on h some f = record {
+      within = h;
+      few = omega (arith, g .few);
+      tries = λ ps of. let n = next-window ps reversed rule text of w h (f ps of .0) in omega (arith, g .tries ps of);
+      none = λ ps of. sym (next-starts ps reversed rule text of w h (f ps of .0) (f ps of .1)) ∙ g .none ps of;
+    }
+
+    -- its last byte stands at no position
+    pub skim-unknown : {r : Bool} → rule .shortest ≤ length text - w → 1 ≤ rule .shortest → UnknownIs reversed (rule .shortest) text w r → not r ≡ false
+        → SkimmedIs reversed rule text w₀ (w + rule .shortest) (k + 1)
+    skim-unknown {r} left some u n =
+        let h : w + rule .shortest ≤ length text = omega (arith, g .within) in
+        let z = u .says (not-false r n) in
+        skim-on h some (λ ps of. (unknown-shift ps reversed rule text w of h z, unknown-missed ps reversed rule text w of h z))
+
+    -- its last two bytes tell it
+    pub skim-quiet : {r : Bool} → rule .shortest ≤ length text - w → 1 ≤ rule .shortest → QuietIs reversed (rule .reversed) (rule .shortest) text w r → not r ≡ false
+        → SkimmedIs reversed rule text w₀ (w + rule .shortest) (k + 1)
+    skim-quiet {r} left some q n =
+        let h : w + rule .shortest ≤ length text = omega (arith, g .within) in
+        let s : Seen = record { shift = rule .shortest; hit = false } in
+        let i = q .says (not-false r n) in
+        skim-on h some (λ ps of. (seen-shift ps reversed rule text w of h s i, seen-missed ps reversed rule text w of h s i refl))
 
 -- ---- the windows with their verification
 
@@ -82,6 +123,9 @@ pub record Going (forward reversed : List ℕ) (rule : Rule) (text l₀ l : List
   pub budget : spent ≤ 2 * w + 4096
   pub long : length l ≡ length l₀
   pub rest : (ps : List Position) → RuleOf ps forward reversed rule → Rest ps text l₀ w count tried l
+
+pub rule-some : {forward reversed first : List ℕ} {rule : Rule} → RuleFits forward reversed first rule → 1 ≤ rule .shortest
+rule-some f = f .backs .some
 
 -- what an answer says of the shift
 module _ {forward reversed : List ℕ} {rule : Rule} {text : List ℕ} {w : ℕ} {x : Tried} (i : TriedIs forward reversed rule text w x) where
@@ -115,13 +159,6 @@ module _ (forward reversed : List ℕ) (rule : Rule) (text l₀ : List ℕ) wher
   }
 
   module _ {l : List ℕ} {w count tried spent : ℕ} (g : Going forward reversed rule text l₀ l w count tried spent) where
-    -- the starts from w on, by those from the next window on
-    move : (ps : List Position) (of : RuleOf ps forward reversed rule) → w + rule .shortest ≤ length text → (j : ℕ) → j ≡ shift ps (windowAt ps text w) → (b : Bool) → isStart ps text w ≡ b
-        → restStarts ps text w ≡ consIf b w (restStarts ps text (w + j))
-    move ps of h j q b e =
-        let m = of .mirrors in
-        rest-move ps (m .inhabited) (m .some) text w (omega (arith, m .size)) ∙ rw (q, e)
-
     module _ {x : Tried} (h : w + rule .shortest ≤ length text) (i : TriedIs forward reversed rule text w x) where
       -- an occurrence starts at w
       pub started : {j s : ℕ} → x ≡ Start j s → Going forward reversed rule text l₀ (set l count w) (w + j) (count + 1) (tried + 1) s
@@ -138,7 +175,7 @@ module _ (forward reversed : List ℕ) (rule : Rule) (text l₀ : List ℕ) wher
             long = length-set l count w ∙ g .long;
             rest = λ ps of.
                 let k = subst (TryMeans ps text w) q (i .means ps of) in
-                let v = move ps of h j (k .0) true (k .1) in
+                let v = next-starts ps reversed rule text (of .mirrors) w h (k .0) (k .1) in
                 let n = next-window ps reversed rule text (of .mirrors) w h (k .0) in
                 let r = g .rest ps of in
                 record {
@@ -163,7 +200,7 @@ module _ (forward reversed : List ℕ) (rule : Rule) (text l₀ : List ℕ) wher
             long = g .long;
             rest = λ ps of.
                 let k = subst (TryMeans ps text w) q (i .means ps of) in
-                let v = move ps of h j (k .0) false (k .1) in
+                let v = next-starts ps reversed rule text (of .mirrors) w h (k .0) (k .1) in
                 let n = next-window ps reversed rule text (of .mirrors) w h (k .0) in
                 let r = g .rest ps of in
                 record {
@@ -173,26 +210,27 @@ module _ (forward reversed : List ℕ) (rule : Rule) (text l₀ : List ℕ) wher
                 };
           }
 
-    -- the short way
-    pub skipped : {b : ℕ} → w + rule .shortest ≤ length text → 1 ≤ rule .shortest → b ≡ getD text (w + rule .shortest - 1) 0 → getD reversed b 0 ≡ 0
-        → Going forward reversed rule text l₀ l (w + rule .shortest) count (tried + 1) spent
-    skipped h m eb z = record {
-      within = h;
-      few = omega (arith, g .few);
-      tries = omega (arith, g .tries);
-      budget = omega (arith, g .budget);
+    -- windows passed over
+    pub skimmed : {w′ k : ℕ} → SkimmedIs reversed rule text w w′ k → Going forward reversed rule text l₀ l w′ count (tried + k) spent
+    skimmed {w′} {k} s = record {
+      within = s .within;
+      few = omega (arith, g .few, s .few);
+      tries = omega (arith, g .tries, s .few);
+      budget = omega (arith, g .budget, s .few);
       long = g .long;
       rest = λ ps of.
-          let j = unknown-shift ps reversed rule text w (of .mirrors) h eb z in
-          let v = move ps of h (rule .shortest) j false (unknown-missed ps reversed rule text w (of .mirrors) h eb z) in
-          let n = next-window ps reversed rule text (of .mirrors) w h j in
+          let m = of .mirrors in
           let r = g .rest ps of in
           record {
-            starts-left = omega (arith, ap length v, r .starts-left);
-            windows-left = omega (arith, r .windows-left);
-            list = sym (ap (sets l count) v) ∙ r .list;
+            starts-left = omega (arith, ap length (s .none ps m), r .starts-left);
+            windows-left = omega (arith, s .tries ps m, r .windows-left);
+            list = ap (sets l count) (s .none ps m) ∙ r .list;
           };
     }
+
+    -- the list has an entry for a start at w
+    pub has-entry : {first : List ℕ} → RuleFits forward reversed first rule → w + rule .shortest ≤ length text → length text ≤ length l₀ → count < length l
+    has-entry f h room = let s = f .backs .some in omega (arith, g .few, g .long)
 
     pub halted : PartIs forward reversed rule text l₀ (record { next = w; count = count; windows = tried }) l
     halted = record { within = g .within; few = g .few; tries = g .tries; long = g .long; rest = g .rest }

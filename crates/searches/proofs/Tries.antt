@@ -4,7 +4,8 @@ use mathlib.Core.Bool.{Bool, false}
 use mathlib.Core.List.{List}
 use Prim.Native.Nat.{ℕ, _+_, _-_, _*_, _≤_, _<_}
 use native.Mathlib.Omega.{arith}
-use lib.Dec.{T}
+use lib.Dec.{T, eqb}
+use borrow.Author.Tests.{eqb-true}
 use lib.ListN.{length, getD}
 use lib.Seq.{length-slice}
 use Rattle.model.specs.Occurrence.{Position, OccursAt, shortest, isStart}
@@ -23,7 +24,7 @@ use Rattle.windows.proofs.Ends.{Means, opened-means}
 use Rattle.searches.specs.declared.Rule.{Rule}
 use Rattle.searches.specs.declared.Tried.{Tried}
 use Rattle.searches.specs.declared.Tried.the-variants.{Start, Empty, Spent}
-use Rattle.searches.specs.Searching.{Mirrors, Spends, Allowed, CheckFits, CheckMeans, CheckedIs, TryFits, TryMeans, TriedIs}
+use Rattle.searches.specs.Searching.{Mirrors, Spends, Allowed, CheckFits, CheckMeans, CheckedIs, TryFits, TryMeans, TriedIs, UnknownIs}
 
 -- ---- verification
 
@@ -135,13 +136,18 @@ module _ (forward reversed : List ℕ) (rule : Rule) (text : List ℕ) (w : ℕ)
       both ps (Empty j n) e f m = (f .0 ∙ e, m)
       both ps Spent e f m = tt
 
--- the short way: the last byte stands at no position
-module _ (ps : List Position) (reversed : List ℕ) (rule : Rule) (text : List ℕ) (w : ℕ) (of : Mirrors ps reversed rule) (fits : w + rule .shortest ≤ length text) {b : ℕ}
-    (eb : b ≡ getD text (w + rule .shortest - 1) 0) (z : getD reversed b 0 ≡ 0) where
+-- ---- `is_unknown`
+
+pub unknown-is : (reversed : List ℕ) (size : ℕ) (text : List ℕ) (w b : ℕ) → b ≡ getD text (w + size - 1) 0 → UnknownIs reversed size text w (eqb (getD reversed b 0) 0)
+unknown-is reversed size text w b e = record { says = λ t. rw e at (eqb-true (getD reversed b 0) 0 t) }
+
+-- the last byte stands at no position
+module _ (ps : List Position) (reversed : List ℕ) (rule : Rule) (text : List ℕ) (w : ℕ) (of : Mirrors ps reversed rule) (fits : w + rule .shortest ≤ length text)
+    (z : getD reversed (getD text (w + rule .shortest - 1) 0) 0 ≡ 0) where
   unknown : (shift ps (windowAt ps text w) ≡ shortest ps) × (isBeginning ps (windowAt ps text w) ≡ false)
   unknown =
       let m : rule .shortest ≡ shortest ps = of .size in
-      let z′ : getD reversed (getD text (w + shortest ps - 1) 0) 0 ≡ 0 = rw (eb, m) at z in
+      let z′ : getD reversed (getD text (w + shortest ps - 1) 0) 0 ≡ 0 = rw m at z in
       unknown-means ps (of .inhabited) reversed (rule .reversed) text (of .backward) (of .top) w (omega arith) (of .some) z′
 
   pub unknown-shift : rule .shortest ≡ shift ps (windowAt ps text w)

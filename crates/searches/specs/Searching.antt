@@ -1,6 +1,6 @@
 -- What the window search gives, over the tables of a list of positions: the starts and the windows of the model, whatever way they were found. Assumes nothing.
 use mathlib.Core.Path.{_≡_}
-use mathlib.Core.Bool.{true, false}
+use mathlib.Core.Bool.{Bool, true, false}
 use mathlib.Core.List.{List, reverse}
 use Prim.Native.Nat.{ℕ, suc, _+_, _-_, _*_, _^_, _≤_, _<_}
 use lib.ListN.{length, getD}
@@ -86,6 +86,10 @@ pub record TriedIs (forward reversed : List ℕ) (rule : Rule) (text : List ℕ)
   pub fits : TryFits (rule .shortest) w x
   pub means : (ps : List Position) → RuleOf ps forward reversed rule → TryMeans ps text w x
 
+-- where it says yes, the table knows no position of the window's last byte
+pub record UnknownIs (reversed : List ℕ) (size : ℕ) (text : List ℕ) (w : ℕ) (r : Bool) : Type 0 where
+  pub says : r ≡ true → getD reversed (getD text (w + size - 1) 0) 0 ≡ 0
+
 -- ---- the windows from w on
 
 pub record TriesIs (reversed : List ℕ) (rule : Rule) (text : List ℕ) (w k : ℕ) : Type 0 where
@@ -95,6 +99,14 @@ pub record TriesIs (reversed : List ℕ) (rule : Rule) (text : List ℕ) (w k : 
 -- The starts from a place on, rising: from 0 on they are `starts ps text`.
 abbrev pub restStarts : List Position → List ℕ → (w : ℕ) → List ℕ
 restStarts ps text w = allFrom (isStart ps text) w (suc (length text) - w)
+
+-- k windows from w₀ on, up to w, are passed over: no occurrence starts from there up to w.
+pub record SkimmedIs (reversed : List ℕ) (rule : Rule) (text : List ℕ) (w₀ w k : ℕ) : Type 0 where
+  pub within : w ≤ length text
+  pub few : k + w₀ ≤ w
+  pub tries : (ps : List Position) → Mirrors ps reversed rule
+      → k + length (windowsFrom (suc (length text)) ps text w) ≡ length (windowsFrom (suc (length text)) ps text w₀)
+  pub none : (ps : List Position) → Mirrors ps reversed rule → restStarts ps text w ≡ restStarts ps text w₀
 
 -- ---- a part of the search: up to window w, which is still to be tried
 

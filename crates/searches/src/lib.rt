@@ -1,10 +1,11 @@
 // The window search over prepared tables. Verifying window after window takes quadratic time on some
 // texts. So it has a budget, and where that does not reach, the rest of the starts comes from two
 // readings of the text backwards. Starts, their order and the count of windows are the same either way.
+ghost use mathlib.Core.Path.{_≡_};
 ghost use Prim.Native.Nat.{_+_, _*_, _≤_, _<_, _^_};
 ghost use lib.ListN.{length};
-ghost use Rattle.windows.specs.Reading.{Tables};
-ghost use Rattle.searches.specs.Searching.{BackFits, RuleFits, Spends, Allowed, CheckedIs, TriedIs, TriesIs, PartIs, SearchFits, SearchedIs, SpanIs};
+ghost use Rattle.windows.specs.Reading.{Tables, Window};
+ghost use Rattle.searches.specs.Searching.{BackFits, RuleFits, Spends, Allowed, CheckedIs, TriedIs, UnknownIs, TriesIs, SkimmedIs, PartIs, SearchFits, SearchedIs, SpanIs};
 use stepping::Masks;
 use windows::End;
 
@@ -106,6 +107,16 @@ fn try_window(
     Tried::Empty(seen.shift, spent)
 }
 
+// Whether the last byte of window w stands at no position.
+fn is_unknown(reversed: &[u64], size: usize, text: &[u8], w: usize) -> bool
+    requires { ⌜ length (now reversed) ≡ 256 ⌝ }
+    requires { ⌜ Window size w (length (now text)) ⌝ }
+    ensures { λ r. ⌜ UnknownIs (now (reversed .entry)) size (now (text .entry)) w r ⌝ }
+{
+    let last = looks::index(text[w + size - 1]);
+    reversed[last] == 0
+}
+
 // How many windows there are from window w on. Nothing is verified.
 fn count_windows(reversed: &[u64], first: &[u64], rule: Rule, text: &[u8], w: usize) -> usize
     requires { ⌜ BackFits (now reversed) (now first) rule ⌝ }
@@ -116,8 +127,7 @@ fn count_windows(reversed: &[u64], first: &[u64], rule: Rule, text: &[u8], w: us
     let mut w = w;
     let mut k = 0;
     while w + rule.shortest <= text.len() {
-        let last = looks::index(text[w + rule.shortest - 1]);
-        if reversed[last] == 0 {
+        if is_unknown(reversed, rule.shortest, text, w) {
             w += rule.shortest;
             k += 1;
             continue;
@@ -128,6 +138,80 @@ fn count_windows(reversed: &[u64], first: &[u64], rule: Rule, text: &[u8], w: us
         k += 1;
     }
     k
+}
+
+// Windows passed over: the next one, and how many they are.
+pub struct Skimmed {
+    pub next: usize,
+    pub windows: usize,
+}
+
+// Passes over windows from w on whose last byte stands at no position.
+fn skim_one(reversed: &[u64], first: &[u64], rule: Rule, text: &[u8], w: usize) -> Skimmed
+    requires { ⌜ BackFits (now reversed) (now first) rule ⌝ }
+    requires { ⌜ w ≤ length (now text) ⌝ }
+    ensures { λ r. ⌜ SkimmedIs (now (reversed .entry)) rule (now (text .entry)) w (r .next) (r .windows) ⌝ }
+{
+    let mut w = w;
+    let mut k = 0;
+    while rule.shortest <= text.len() - w {
+        if !is_unknown(reversed, rule.shortest, text, w) {
+            return Skimmed {
+                next: w,
+                windows: k,
+            };
+        }
+        w += rule.shortest;
+        k += 1;
+    }
+    Skimmed {
+        next: w,
+        windows: k,
+    }
+}
+
+// The same where the last two bytes tell it.
+fn skim_two(reversed: &[u64], first: &[u64], rule: Rule, text: &[u8], w: usize) -> Skimmed
+    requires { ⌜ BackFits (now reversed) (now first) rule ⌝ }
+    requires { ⌜ 2 ≤ rule .shortest ⌝ }
+    requires { ⌜ w ≤ length (now text) ⌝ }
+    ensures { λ r. ⌜ SkimmedIs (now (reversed .entry)) rule (now (text .entry)) w (r .next) (r .windows) ⌝ }
+{
+    let mut w = w;
+    let mut k = 0;
+    while rule.shortest <= text.len() - w {
+        let back = rule.reversed;
+        if !windows::is_quiet(reversed, first, back, rule.shortest, text, w) {
+            return Skimmed {
+                next: w,
+                windows: k,
+            };
+        }
+        w += rule.shortest;
+        k += 1;
+    }
+    Skimmed {
+        next: w,
+        windows: k,
+    }
+}
+
+// Of these sizes on, and at size 2, two bytes pay: between them the second is read in vain too often.
+const TWO_PAY: usize = 9;
+
+// Passes over windows that hold nothing and are shifted by their size, as far as their last bytes tell.
+fn skim(reversed: &[u64], first: &[u64], rule: Rule, text: &[u8], w: usize) -> Skimmed
+    requires { ⌜ BackFits (now reversed) (now first) rule ⌝ }
+    requires { ⌜ w ≤ length (now text) ⌝ }
+    ensures { λ r. ⌜ SkimmedIs (now (reversed .entry)) rule (now (text .entry)) w (r .next) (r .windows) ⌝ }
+{
+    if TWO_PAY <= rule.shortest {
+        return skim_two(reversed, first, rule, text, w);
+    }
+    if rule.shortest == 2 {
+        return skim_two(reversed, first, rule, text, w);
+    }
+    skim_one(reversed, first, rule, text, w)
 }
 
 // Tries the windows one after another, and writes the starts into the list from its front, until the
@@ -150,11 +234,10 @@ fn verified(
     let mut tried = 0;
     let mut spent = 0;
     while w + rule.shortest <= text.len() {
-        // The short way, for most windows: the last byte stands at no position.
-        let last = looks::index(text[w + rule.shortest - 1]);
-        if reversed[last] == 0 {
-            tried += 1;
-            w += rule.shortest;
+        let s = skim(reversed, first, rule, text, w);
+        if s.windows != 0 {
+            tried += s.windows;
+            w = s.next;
             continue;
         }
         let found = try_window(forward, reversed, first, rule, text, w, spent);

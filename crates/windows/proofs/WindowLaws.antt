@@ -1,6 +1,6 @@
 -- A window read backwards: what the rest of the window would make of the present values is what the whole window makes of the first ones. On plain values. Assumes nothing.
 use mathlib.Core.Path.{_≡_, refl, sym, ap, _∙_}
-use mathlib.Core.Bool.{Bool, true, false, cond}
+use mathlib.Core.Bool.{Bool, true, false, not, cond, _||_}
 use mathlib.Core.List.{List}
 use Prim.Native.Nat.{ℕ, zero, suc, _+_, _-_, _≤_, _<_}
 use native.Mathlib.Omega.{arith}
@@ -8,11 +8,12 @@ use native.Mathlib.Decide.{decLt}
 use lib.ListN.{length, getD, set, length-set}
 use lib.Seq.{getD-set-same, getD-set-other}
 use lib.Dec.{eqb}
-use borrow.Author.Tests.{eq-eqb, ne-eqb}
+use borrow.Author.Tests.{eq-eqb, ne-eqb, eqb-true, not-true, not-false}
+use Rattle.model.proofs.Truth.{or-false-left, or-false-right}
 use Rattle.words.specs.ForwardStep.{topBit}
 use Rattle.stepping.specs.declared.Masks.{Masks}
 use Rattle.stepping.specs.Stepping.{stepN}
-use Rattle.windows.specs.Reading.{every, stepAt, seenN, Window, FirstIs, Looking, SeenIs}
+use Rattle.windows.specs.Reading.{every, stepAt, seenN, Window, FirstIs, Looking, SeenIs, QuietIs}
 
 module _ (t : List ℕ) (m : Masks) (text : List ℕ) (w d last : ℕ) where
   -- one turn of the definition
@@ -92,6 +93,29 @@ module _ (t : List ℕ) (m : Masks) (size : ℕ) (text : List ℕ) (w : ℕ) (f 
 
       pub first-passed : {q : Bool} → q ≡ topBit (m .top) d → q ≡ false → Looking t m size text w d size (size - 1 - 1)
       first-passed e k = look-passed t m size text w (look-begun t m size text w f) (omega arith) eb stepped z e k
+
+-- ---- `is_quiet`: the last two bytes
+
+  module _ {b′ x : ℕ} (eb′ : b′ ≡ getD text (w + (size - 1 - 1)) 0) (ex : x ≡ stepN m 0 d (getD t b′ 0)) {begins : Bool} (ebegins : begins ≡ topBit (m .top) d) where
+    pub quiet-pair : 2 ≤ size → {hit : Bool} → size - 1 - 1 ≡ 0 → hit ≡ topBit (m .top) x → QuietIs t m size text w (not (begins || hit))
+    quiet-pair two {hit} e eh = record { says = λ y. go (not-true (begins || hit) y) (decLt 0 d) }
+      where
+        go : (begins || hit) ≡ false → Dec (0 < d) → SeenIs t m size text w (record { shift = size; hit = false })
+        go n (no l) = first-emptied (λ z. omega arith) (omega arith)
+        go n (yes l) =
+            let k = first-passed (λ z. omega arith) (λ z. omega arith) ebegins (or-false-left begins hit n) in
+            let at : w + (size - 1 - 1) ≡ w = omega arith in
+            rw (or-false-right begins hit n) at (look-over t m size text w k b′ x hit (omega arith) (eb′ ∙ ap (λ (i : ℕ). getD text i 0) at) ex eh)
+
+    pub quiet-long : 2 ≤ size → (size - 1 - 1 ≡ 0 → ⊥) → QuietIs t m size text w (not (begins || not (eqb x 0)))
+    quiet-long two e = record { says = λ y. go (not-true (begins || not (eqb x 0)) y) (decLt 0 d) }
+      where
+        go : (begins || not (eqb x 0)) ≡ false → Dec (0 < d) → SeenIs t m size text w (record { shift = size; hit = false })
+        go n (no l) = first-emptied (λ z. omega arith) (omega arith)
+        go n (yes l) =
+            let k = first-passed (λ z. omega arith) (λ z. omega arith) ebegins (or-false-left begins (not (eqb x 0)) n) in
+            let x0 : x ≡ 0 = eqb-true x 0 (not-false (eqb x 0) (or-false-right begins (not (eqb x 0)) n)) in
+            look-emptied t m size text w k (omega arith) eb′ ex x0
 
 -- ---- `first_steps`
 

@@ -75,6 +75,10 @@ pub record SeenIs (t : List ℕ) (m : Masks) (size : ℕ) (text : List ℕ) (w :
   pub moves : 1 ≤ x .shift
   pub short : x .shift ≤ size
 
+-- where it says yes, the window holds nothing, and is shifted by its size
+pub record QuietIs (t : List ℕ) (m : Masks) (size : ℕ) (text : List ℕ) (w : ℕ) (r : Bool) : Type 0 where
+  pub says : r ≡ true → SeenIs t m size text w (record { shift = size; hit = false })
+
 abbrev pub Within : (s stop : ℕ) → End → Type 0
 Within s stop (At e) = (s < e) × (e ≤ stop)
 Within s stop (Dead e) = (s < e) × (e ≤ stop)

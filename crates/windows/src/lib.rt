@@ -4,7 +4,7 @@
 ghost use mathlib.Core.Path.{_≡_};
 ghost use Prim.Native.Nat.{_+_, _≤_, _<_};
 ghost use lib.ListN.{length};
-ghost use Rattle.windows.specs.Reading.{Tables, Window, FirstIs, Looking, SeenIs, EndIs, CountIs, WriteFine, WroteIs, RestFine, WrittenIs};
+ghost use Rattle.windows.specs.Reading.{Tables, Window, FirstIs, Looking, SeenIs, QuietIs, EndIs, CountIs, WriteFine, WroteIs, RestFine, WrittenIs};
 use stepping::Masks;
 
 // What a window says: the published shift, and whether its bytes begin a string that the rule admits.
@@ -114,6 +114,37 @@ pub fn window_shift(
         return read_back(reversed, m, size, text, w, d, j, next);
     }
     read_back(reversed, m, size, text, w, d, size, next)
+}
+
+// Whether the last two bytes of window w tell that it holds nothing and is shifted by its size: mostly
+// they do, and one test of both goes wrong less often than one of each.
+pub fn is_quiet(
+    reversed: &[u64],
+    first: &[u64],
+    m: Masks,
+    size: usize,
+    text: &[u8],
+    w: usize,
+) -> bool
+    requires { ⌜ Tables (now reversed) m ⌝ }
+    requires { ⌜ Window size w (length (now text)) ⌝ }
+    requires { ⌜ FirstIs (now reversed) m (now first) ⌝ }
+    requires { ⌜ 2 ≤ size ⌝ }
+    ensures { λ r. ⌜ QuietIs (now (reversed .entry)) m size (now (text .entry)) w r ⌝ }
+{
+    let j = size - 1;
+    let i = j - 1;
+    let c = looks::index(text[w + j]);
+    let b = looks::index(text[w + i]);
+    let d = first[c];
+    let x = stepping::step(d, reversed[b], 0, m);
+    let begins = words::reports(d, m.top);
+    if i == 0 {
+        let hit = words::reports(x, m.top);
+        return !(begins | hit);
+    }
+    let alive = x != 0;
+    !(begins | alive)
 }
 
 // Reads forward from the start s, with the forward table and masks, up to the place `stop`.

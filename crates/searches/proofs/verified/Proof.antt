@@ -2,13 +2,13 @@
 use native.Mathlib.Omega.{arith}
 use Prim.Native.Nat.{_-_}
 use lib.ListN.{length}
-use Rattle.searches.proofs.Searches.{Going, begun, skipped, start-short, start-less, started, empty-short, empty-less, passed, halted}
+use Rattle.searches.proofs.Searches.{Going, begun, skimmed, start-short, start-less, started, empty-short, empty-less, passed, has-entry, halted, rule-some}
 use borrow.Author.Needs.{needs}
 use Rattle.searches.proofs.verified.Statement.{statement}
 use Rattle.searches.proofs.verified.Tie as tie
 use Rattle.searches.proofs.verified.Reads as reads
 use Rattle.searches.proofs.verified.Lts as lts
-use Rattle.looks.proofs.index.Reads as index-reads
+use Rattle.searches.proofs.skim.Reads as skim-reads
 use Rattle.searches.proofs.try_window.Reads as try-window-reads
 
 abbrev Inv-loop : tie.InvT-loop
@@ -17,103 +17,107 @@ Inv-loop forward reversed first rule text starts₀ w₀ count₀ tried₀ spent
 abbrev μ-loop : tie.MeasureT-loop
 μ-loop forward reversed first rule text starts₀ w₀ count₀ tried₀ spent₀ starts w count tried spent = length text - w
 
+-- src/lib.rt:236:5
 loop-holds : tie.Need-loop-holds Inv-loop μ-loop
 loop-holds c = search begun
 
+-- src/lib.rt:236:11
 add-if1 : tie.Need-add-if1 Inv-loop μ-loop
 add-if1 c = search needs
 
-add-index : tie.Need-add-index Inv-loop μ-loop
-add-index c = search needs
+-- src/lib.rt:237:13
+skim-requires : tie.Need-skim-requires Inv-loop μ-loop
+skim-requires c κs = search needs
 
-sub-index : tie.Need-sub-index Inv-loop μ-loop
-sub-index c = search needs
-
-shared-slice-read-index : tie.Need-shared-slice-read-index Inv-loop μ-loop
-shared-slice-read-index c = search needs
-
-index-requires : tie.Need-index-requires Inv-loop μ-loop
-index-requires c κs = search needs
-
-mul-if2 : tie.Need-mul-if2 Inv-loop μ-loop
-mul-if2 c = search needs
-
-shared-slice-read-if2 : tie.Need-shared-slice-read-if2 Inv-loop μ-loop
-shared-slice-read-if2 c = search needs
-
+-- src/lib.rt:239:13
 add-tried : tie.Need-add-tried Inv-loop μ-loop
 add-tried c = search needs
 
-add-w : tie.Need-add-w Inv-loop μ-loop
-add-w c = search needs
-
+-- src/lib.rt:236:5
 loop-less : tie.Need-loop-less Inv-loop μ-loop
 loop-less c = search needs
 
+-- src/lib.rt:236:5
 loop-again : tie.Need-loop-again Inv-loop μ-loop
-loop-again c =
-    let i = c .before .before .before in
-    let l = c .before .before .before .before .before .before .before .before in
-    let s = c .before .before .before .before .before .before .before .before .before .before .before .before .before .before in
-    skipped _ _ _ _ _ (l .loop .inv) (c .before .before .before .before .before .before .if1 .taken) (s .pre .0 .backs .some) (i .index .ensures .0) (c .before .if2 .taken)
+loop-again c = search skimmed
 
+-- src/lib.rt:243:13
 try-window-requires : tie.Need-try-window-requires Inv-loop μ-loop
 try-window-requires c κs = search needs
 
+-- src/lib.rt:245:26
 enum-known-found : tie.Need-enum-known-found Inv-loop μ-loop
 enum-known-found c = search needs
 
+-- src/lib.rt:246:33
 cast-starts : tie.Need-cast-starts Inv-loop μ-loop
 cast-starts c = search needs
 
+-- src/lib.rt:246:17
 mul-starts : tie.Need-mul-starts Inv-loop μ-loop
 mul-starts c = search needs
 
+-- src/lib.rt:246:17
 slice-write-starts : tie.Need-slice-write-starts Inv-loop μ-loop
-slice-write-starts c = search needs
+slice-write-starts c = search has-entry
 
+-- src/lib.rt:247:17
 add-count : tie.Need-add-count Inv-loop μ-loop
 add-count c = search needs
 
+-- src/lib.rt:248:17
 add-tried-2 : tie.Need-add-tried-2 Inv-loop μ-loop
 add-tried-2 c = search needs
 
-add-w-2 : tie.Need-add-w-2 Inv-loop μ-loop
-add-w-2 c = omega (arith, start-short (c .before .before .before .try-window .ensures) (c .before .found .given .1))
+-- src/lib.rt:250:17
+add-w : tie.Need-add-w Inv-loop μ-loop
+add-w c = omega (arith, start-short (c .before .before .before .try-window .ensures) (c .before .found .given .1))
 
+-- src/lib.rt:236:5
 loop-less-2 : tie.Need-loop-less-2 Inv-loop μ-loop
-loop-less-2 c = search start-less
+loop-less-2 c = search (start-less, rule-some)
 
+-- src/lib.rt:236:5
 loop-again-2 : tie.Need-loop-again-2 Inv-loop μ-loop
 loop-again-2 c = search started
 
+-- src/lib.rt:252:26
 enum-known-found-2 : tie.Need-enum-known-found-2 Inv-loop μ-loop
 enum-known-found-2 c = search needs
 
+-- src/lib.rt:253:17
 add-tried-3 : tie.Need-add-tried-3 Inv-loop μ-loop
 add-tried-3 c = search needs
 
-add-w-3 : tie.Need-add-w-3 Inv-loop μ-loop
-add-w-3 c = omega (arith, empty-short (c .before .before .before .try-window .ensures) (c .before .found2 .given .1))
+-- src/lib.rt:255:17
+add-w-2 : tie.Need-add-w-2 Inv-loop μ-loop
+add-w-2 c = omega (arith, empty-short (c .before .before .before .try-window .ensures) (c .before .found2 .given .1))
 
+-- src/lib.rt:236:5
 loop-less-3 : tie.Need-loop-less-3 Inv-loop μ-loop
-loop-less-3 c = search empty-less
+loop-less-3 c = search (empty-less, rule-some)
 
+-- src/lib.rt:236:5
 loop-again-3 : tie.Need-loop-again-3 Inv-loop μ-loop
 loop-again-3 c = search passed
 
+-- src/lib.rt:258:17
 enum-told : tie.Need-enum-told Inv-loop μ-loop
 enum-told c = search needs
 
+-- src/lib.rt:258:17
 same-length : tie.Need-same-length Inv-loop μ-loop
 same-length c = search needs
 
+-- src/lib.rt:258:17
 returns : tie.Need-returns Inv-loop μ-loop
 returns c = search halted
 
+-- src/lib.rt:219:1
 same-length-2 : tie.Need-same-length-2 Inv-loop μ-loop
 same-length-2 c = search needs
 
+-- src/lib.rt:219:1
 returns-2 : tie.Need-returns-2 Inv-loop μ-loop
 returns-2 c = search halted
 
@@ -125,14 +129,8 @@ verified-spec =
     μ-loop
     loop-holds
     add-if1
-    add-index
-    sub-index
-    shared-slice-read-index
-    index-requires
-    mul-if2
-    shared-slice-read-if2
+    skim-requires
     add-tried
-    add-w
     loop-less
     loop-again
     try-window-requires
@@ -142,12 +140,12 @@ verified-spec =
     slice-write-starts
     add-count
     add-tried-2
-    add-w-2
+    add-w
     loop-less-2
     loop-again-2
     enum-known-found-2
     add-tried-3
-    add-w-3
+    add-w-2
     loop-less-3
     loop-again-3
     enum-told
