@@ -8,7 +8,7 @@ use native.Mathlib.Omega.{arith}
 use lib.Dec.{T, eqb}
 use lib.ListN.{length, take, drop, getD, drop-of-length-le, length-drop, take-append-drop}
 use lib.Seq.{drop-cons, drop-drop, take-all}
-use borrow.Author.Tests.{ne-eqb, eq-eqb, eqb-false, eqb-true}
+use borrow.Author.Tests.{ne-eqb, eqb-false, eqb-true}
 use Rattle.model.specs.References.{formLimit, none, referenceAt, notAmp, canGrow, heldTail, letOut}
 use Rattle.model.proofs.Truth.{or-false-left, or-false-right, T-to}
 use Rattle.references.proofs.Cuts.{held-none, letOut-none, held-plain, letOut-plain}

@@ -13,7 +13,7 @@ use lib.Pow.{pow-pos, shl-exact}
 use borrow.Author.Tests.{not-false, eqb-true, leb-true}
 use Rattle.model.proofs.Truth.{or-false-left, or-false-right, T-to}
 use Rattle.words.specs.Bit.{bit}
-use Rattle.words.proofs.Digits.{and-bit, or-bit, none-bit}
+use Rattle.words.proofs.Digits.{or-bit, none-bit}
 use Rattle.words.proofs.Apart.{clear-at}
 use Rattle.plans.specs.Plans.{Home, Union, Others, Clear, Plain, Fit, Paired, Planned}
 

@@ -287,8 +287,8 @@ fn walk_staying(
     let mut i = s.i;
     while i < text.len() {
         let j = staying(table, m, q, d, text, i);
-        let gone = (j - i) as u32;
-        let here = at + gone;
+        let stayed = (j - i) as u32;
+        let here = at + stayed;
         if j == text.len() {
             return Spot {
                 d: d,

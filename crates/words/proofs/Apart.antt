@@ -7,9 +7,8 @@ use native.Mathlib.Decide.{decLt}
 use mathlib.Core.Bool.{Bool, true, false, not, _&&_}
 use lib.Pow.{pow-pos, pow-mono}
 use lib.Bits.{bitAnd, and-le-l}
-use borrow.Author.Tests.{eq-eqb, ne-eqb}
+use borrow.Author.Tests.{eq-eqb}
 use Rattle.model.specs.Occurrence.{oneIf}
-use Rattle.model.proofs.Truth.{and-false}
 use Rattle.words.specs.Bit.{bit}
 use Rattle.words.proofs.Digits.{split, below-half, bit-above, and-bit, mod-bit, not-bit, none-bit, no-bits, power-bit}
 
@@ -55,17 +54,6 @@ clear-below x w e i h = and-true (bit x i) (ap (λ (b : Bool). bit x i && b) (sy
 -- not bit n
 pub clear-at : (x n : ℕ) → bitAnd x (2 ^ n) ≡ 0 → bit x n ≡ false
 clear-at x n e = and-true (bit x n) (ap (λ (b : Bool). bit x n && b) (sym (power-bit n n ∙ eq-eqb n n refl)) ∙ apart x (2 ^ n) e n)
-
-pub at-clear : (x n : ℕ) → bit x n ≡ false → bitAnd x (2 ^ n) ≡ 0
-at-clear x n z = and-none x (2 ^ n) (λ j. go j (decLt j n) (decLt n j))
-  where
-    other : (j : ℕ) → (n ≡ j → ⊥) → (bit x j && bit (2 ^ n) j) ≡ false
-    other j h = ap (λ (q : Bool). bit x j && q) (power-bit n j ∙ ne-eqb n j h) ∙ and-false (bit x j)
-
-    go : (j : ℕ) → Dec (j < n) → Dec (n < j) → (bit x j && bit (2 ^ n) j) ≡ false
-    go j (yes l) r = other j (λ e. omega arith)
-    go j (no l) (yes r) = other j (λ e. omega arith)
-    go j (no l) (no r) = let e : j ≡ n = omega arith in rw (e, z) refl
 
 -- ---- words whose bits end below w
 

@@ -7,9 +7,6 @@ use Rattle.amps.specs.Amps.{ampAt}
 use borrow.Author.Needs.{needs}
 use Rattle.amps.proofs.crawl_amp.Statement.{statement}
 use Rattle.amps.proofs.crawl_amp.Tie as tie
-use Rattle.amps.proofs.crawl_amp.Reads as reads
-use Rattle.amps.proofs.crawl_amp.Lts as lts
-use Rattle.amps.proofs.is_amp.Reads as is-amp-reads
 
 abbrev Inv-loop : tie.InvT-loop
 Inv-loop text i end i₀ i' = Missed (ampAt text) i end i'
@@ -17,31 +14,24 @@ Inv-loop text i end i₀ i' = Missed (ampAt text) i end i'
 abbrev μ-loop : tie.MeasureT-loop
 μ-loop text i end i₀ i' = end - i'
 
--- src/lib.rt:61:5
 loop-holds : tie.Need-loop-holds Inv-loop μ-loop
 loop-holds c = search miss-begun
 
--- src/lib.rt:62:12
 is-amp-requires : tie.Need-is-amp-requires Inv-loop μ-loop
 is-amp-requires c κs = search needs
 
--- src/lib.rt:63:13
 returns : tie.Need-returns Inv-loop μ-loop
 returns c = search needs
 
--- src/lib.rt:65:9
 add-i : tie.Need-add-i Inv-loop μ-loop
 add-i c = search needs
 
--- src/lib.rt:61:5
 loop-less : tie.Need-loop-less Inv-loop μ-loop
 loop-less c = search needs
 
--- src/lib.rt:61:5
 loop-again : tie.Need-loop-again Inv-loop μ-loop
 loop-again c = search amp-one
 
--- src/lib.rt:55:1
 returns-2 : tie.Need-returns-2 Inv-loop μ-loop
 returns-2 c = search needs
 

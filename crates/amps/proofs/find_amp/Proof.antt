@@ -7,11 +7,6 @@ use Rattle.amps.specs.Amps.{ampAt}
 use borrow.Author.Needs.{needs}
 use Rattle.amps.proofs.find_amp.Statement.{statement}
 use Rattle.amps.proofs.find_amp.Tie as tie
-use Rattle.amps.proofs.find_amp.Reads as reads
-use Rattle.amps.proofs.find_amp.Lts as lts
-use Rattle.amps.proofs.crawl_amp.Reads as crawl-amp-reads
-use Rattle.amps.proofs.near_amp.Reads as near-amp-reads
-use Rattle.looks.proofs.skim_same.Reads as skim-same-reads
 
 abbrev Inv-loop : tie.InvT-loop
 Inv-loop text i end i₀ i' = Missed (ampAt text) i end i'
@@ -19,47 +14,36 @@ Inv-loop text i end i₀ i' = Missed (ampAt text) i end i'
 abbrev μ-loop : tie.MeasureT-loop
 μ-loop text i end i₀ i' = end - i'
 
--- src/lib.rt:77:5
 loop-holds : tie.Need-loop-holds Inv-loop μ-loop
 loop-holds c = search miss-begun
 
--- src/lib.rt:78:13
 skim-same-requires : tie.Need-skim-same-requires Inv-loop μ-loop
 skim-same-requires c κs = search needs
 
--- src/lib.rt:79:12
 sub-if1 : tie.Need-sub-if1 Inv-loop μ-loop
 sub-if1 c = search needs
 
--- src/lib.rt:80:13
 crawl-amp-requires : tie.Need-crawl-amp-requires Inv-loop μ-loop
 crawl-amp-requires c κs = search needs
 
--- src/lib.rt:80:13
 returns : tie.Need-returns Inv-loop μ-loop
 returns c = search amp-crawled
 
--- src/lib.rt:82:13
 near-amp-requires : tie.Need-near-amp-requires Inv-loop μ-loop
 near-amp-requires c κs = search needs
 
--- src/lib.rt:83:12
 sub-if2 : tie.Need-sub-if2 Inv-loop μ-loop
 sub-if2 c = search needs
 
--- src/lib.rt:84:13
 returns-2 : tie.Need-returns-2 Inv-loop μ-loop
 returns-2 c = search amp-looked
 
--- src/lib.rt:77:5
 loop-less : tie.Need-loop-less Inv-loop μ-loop
 loop-less c = search needs
 
--- src/lib.rt:77:5
 loop-again : tie.Need-loop-again Inv-loop μ-loop
 loop-again c = search amp-looked
 
--- src/lib.rt:71:1
 returns-3 : tie.Need-returns-3 Inv-loop μ-loop
 returns-3 c = search needs
 

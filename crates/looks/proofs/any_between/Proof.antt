@@ -5,8 +5,6 @@ use Rattle.looks.specs.Looks.{between}
 use borrow.Author.Needs.{needs}
 use Rattle.looks.proofs.any_between.Statement.{statement}
 use Rattle.looks.proofs.any_between.Tie as tie
-use Rattle.looks.proofs.any_between.Reads as reads
-use Rattle.looks.proofs.any_between.Lts as lts
 
 abbrev Inv-loop : tie.InvT-loop
 Inv-loop text lo hi i z₀ j₀ z j = Looking (between text lo hi) i 64 z j
@@ -14,39 +12,30 @@ Inv-loop text lo hi i z₀ j₀ z j = Looking (between text lo hi) i 64 z j
 abbrev μ-loop : tie.MeasureT-loop
 μ-loop text lo hi i z₀ j₀ z j = 64 - j
 
--- src/lib.rt:215:5
 loop-holds : tie.Need-loop-holds Inv-loop μ-loop
 loop-holds c = look-begun _ _ _
 
--- src/lib.rt:216:30
 add-z : tie.Need-add-z Inv-loop μ-loop
 add-z c = search needs
 
--- src/lib.rt:216:25
 shared-slice-read-z : tie.Need-shared-slice-read-z Inv-loop μ-loop
 shared-slice-read-z c = search needs
 
--- src/lib.rt:216:46
 add-z-2 : tie.Need-add-z-2 Inv-loop μ-loop
 add-z-2 c = search needs
 
--- src/lib.rt:216:41
 shared-slice-read-z-2 : tie.Need-shared-slice-read-z-2 Inv-loop μ-loop
 shared-slice-read-z-2 c = search needs
 
--- src/lib.rt:217:9
 add-j : tie.Need-add-j Inv-loop μ-loop
 add-j c = search needs
 
--- src/lib.rt:215:5
 loop-less : tie.Need-loop-less Inv-loop μ-loop
 loop-less c = search needs
 
--- src/lib.rt:215:5
 loop-again : tie.Need-loop-again Inv-loop μ-loop
 loop-again c = search between-on
 
--- src/lib.rt:209:1
 returns : tie.Need-returns Inv-loop μ-loop
 returns c = search look-over
 

@@ -5,9 +5,6 @@ use Rattle.looks.specs.Looks.{pairAt}
 use borrow.Author.Needs.{needs}
 use Rattle.looks.proofs.any_pair.Statement.{statement}
 use Rattle.looks.proofs.any_pair.Tie as tie
-use Rattle.looks.proofs.any_pair.Reads as reads
-use Rattle.looks.proofs.any_pair.Lts as lts
-use Rattle.looks.proofs.is_pair.Reads as is-pair-reads
 
 abbrev Inv-loop : tie.InvT-loop
 Inv-loop text a b x y i z₀ j₀ z j = Looking (pairAt text a b x y) i 64 z j
@@ -15,31 +12,24 @@ Inv-loop text a b x y i z₀ j₀ z j = Looking (pairAt text a b x y) i 64 z j
 abbrev μ-loop : tie.MeasureT-loop
 μ-loop text a b x y i z₀ j₀ z j = 64 - j
 
--- src/lib.rt:322:5
 loop-holds : tie.Need-loop-holds Inv-loop μ-loop
 loop-holds c = look-begun _ _ _
 
--- src/lib.rt:323:43
 add-is-pair : tie.Need-add-is-pair Inv-loop μ-loop
 add-is-pair c = search needs
 
--- src/lib.rt:323:17
 is-pair-requires : tie.Need-is-pair-requires Inv-loop μ-loop
 is-pair-requires c κs = search needs
 
--- src/lib.rt:324:9
 add-j : tie.Need-add-j Inv-loop μ-loop
 add-j c = search needs
 
--- src/lib.rt:322:5
 loop-less : tie.Need-loop-less Inv-loop μ-loop
 loop-less c = search needs
 
--- src/lib.rt:322:5
 loop-again : tie.Need-loop-again Inv-loop μ-loop
 loop-again c = search pair-on
 
--- src/lib.rt:315:1
 returns : tie.Need-returns Inv-loop μ-loop
 returns c = search look-over
 

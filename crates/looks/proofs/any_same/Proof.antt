@@ -5,8 +5,6 @@ use Rattle.looks.specs.Looks.{same}
 use borrow.Author.Needs.{needs}
 use Rattle.looks.proofs.any_same.Statement.{statement}
 use Rattle.looks.proofs.any_same.Tie as tie
-use Rattle.looks.proofs.any_same.Reads as reads
-use Rattle.looks.proofs.any_same.Lts as lts
 
 abbrev Inv-loop : tie.InvT-loop
 Inv-loop text x i z₀ j₀ z j = Looking (same text x) i 64 z j
@@ -14,31 +12,24 @@ Inv-loop text x i z₀ j₀ z j = Looking (same text x) i 64 z j
 abbrev μ-loop : tie.MeasureT-loop
 μ-loop text x i z₀ j₀ z j = 64 - j
 
--- src/lib.rt:117:5
 loop-holds : tie.Need-loop-holds Inv-loop μ-loop
 loop-holds c = look-begun _ _ _
 
--- src/lib.rt:118:23
 add-z : tie.Need-add-z Inv-loop μ-loop
 add-z c = search needs
 
--- src/lib.rt:118:18
 shared-slice-read-z : tie.Need-shared-slice-read-z Inv-loop μ-loop
 shared-slice-read-z c = search needs
 
--- src/lib.rt:119:9
 add-j : tie.Need-add-j Inv-loop μ-loop
 add-j c = search needs
 
--- src/lib.rt:117:5
 loop-less : tie.Need-loop-less Inv-loop μ-loop
 loop-less c = search needs
 
--- src/lib.rt:117:5
 loop-again : tie.Need-loop-again Inv-loop μ-loop
 loop-again c = search same-on
 
--- src/lib.rt:111:1
 returns : tie.Need-returns Inv-loop μ-loop
 returns c = search look-over
 

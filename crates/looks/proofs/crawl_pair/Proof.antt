@@ -5,9 +5,6 @@ use Rattle.looks.specs.Looks.{Missed, pairAt}
 use borrow.Author.Needs.{needs}
 use Rattle.looks.proofs.crawl_pair.Statement.{statement}
 use Rattle.looks.proofs.crawl_pair.Tie as tie
-use Rattle.looks.proofs.crawl_pair.Reads as reads
-use Rattle.looks.proofs.crawl_pair.Lts as lts
-use Rattle.looks.proofs.is_pair.Reads as is-pair-reads
 
 abbrev Inv-loop : tie.InvT-loop
 Inv-loop text a b x y i end i₀ i' = Missed (pairAt text a b x y) i end i'
@@ -15,31 +12,24 @@ Inv-loop text a b x y i end i₀ i' = Missed (pairAt text a b x y) i end i'
 abbrev μ-loop : tie.MeasureT-loop
 μ-loop text a b x y i end i₀ i' = end - i'
 
--- src/lib.rt:376:5
 loop-holds : tie.Need-loop-holds Inv-loop μ-loop
 loop-holds c = search miss-begun
 
--- src/lib.rt:377:12
 is-pair-requires : tie.Need-is-pair-requires Inv-loop μ-loop
 is-pair-requires c κs = search needs
 
--- src/lib.rt:378:13
 returns : tie.Need-returns Inv-loop μ-loop
 returns c = search needs
 
--- src/lib.rt:380:9
 add-i : tie.Need-add-i Inv-loop μ-loop
 add-i c = search needs
 
--- src/lib.rt:376:5
 loop-less : tie.Need-loop-less Inv-loop μ-loop
 loop-less c = search needs
 
--- src/lib.rt:376:5
 loop-again : tie.Need-loop-again Inv-loop μ-loop
 loop-again c = search pair-one
 
--- src/lib.rt:369:1
 returns-2 : tie.Need-returns-2 Inv-loop μ-loop
 returns-2 c = search needs
 

@@ -5,8 +5,6 @@ use Rattle.looks.specs.Looks.{Missed, same}
 use borrow.Author.Needs.{needs}
 use Rattle.looks.proofs.crawl_same.Statement.{statement}
 use Rattle.looks.proofs.crawl_same.Tie as tie
-use Rattle.looks.proofs.crawl_same.Reads as reads
-use Rattle.looks.proofs.crawl_same.Lts as lts
 
 abbrev Inv-loop : tie.InvT-loop
 Inv-loop text x i end i₀ i' = Missed (same text x) i end i'
@@ -14,31 +12,24 @@ Inv-loop text x i end i₀ i' = Missed (same text x) i end i'
 abbrev μ-loop : tie.MeasureT-loop
 μ-loop text x i end i₀ i' = end - i'
 
--- src/lib.rt:168:5
 loop-holds : tie.Need-loop-holds Inv-loop μ-loop
 loop-holds c = search miss-begun
 
--- src/lib.rt:169:12
 shared-slice-read-if1 : tie.Need-shared-slice-read-if1 Inv-loop μ-loop
 shared-slice-read-if1 c = search needs
 
--- src/lib.rt:170:13
 returns : tie.Need-returns Inv-loop μ-loop
 returns c = search needs
 
--- src/lib.rt:172:9
 add-i : tie.Need-add-i Inv-loop μ-loop
 add-i c = search needs
 
--- src/lib.rt:168:5
 loop-less : tie.Need-loop-less Inv-loop μ-loop
 loop-less c = search needs
 
--- src/lib.rt:168:5
 loop-again : tie.Need-loop-again Inv-loop μ-loop
 loop-again c = search same-one
 
--- src/lib.rt:162:1
 returns-2 : tie.Need-returns-2 Inv-loop μ-loop
 returns-2 c = search needs
 

@@ -3,33 +3,22 @@ use Rattle.looks.proofs.LookLaws.{miss-join, miss-then-first}
 use borrow.Author.Needs.{needs}
 use Rattle.looks.proofs.far_between.Statement.{statement}
 use Rattle.looks.proofs.far_between.Tie as tie
-use Rattle.looks.proofs.far_between.Reads as reads
-use Rattle.looks.proofs.far_between.Lts as lts
-use Rattle.looks.proofs.crawl_between.Reads as crawl-between-reads
-use Rattle.looks.proofs.first_between.Reads as first-between-reads
-use Rattle.looks.proofs.skim_between.Reads as skim-between-reads
 
--- src/lib.rt:281:9
 skim-between-requires : tie.Need-skim-between-requires
 skim-between-requires c κs = search needs
 
--- src/lib.rt:282:8
 sub-if1 : tie.Need-sub-if1
 sub-if1 c = search needs
 
--- src/lib.rt:283:9
 crawl-between-requires : tie.Need-crawl-between-requires
 crawl-between-requires c κs = search needs
 
--- src/lib.rt:283:9
 returns : tie.Need-returns
 returns c = search miss-join
 
--- src/lib.rt:285:5
 first-between-requires : tie.Need-first-between-requires
 first-between-requires c κs = search needs
 
--- src/lib.rt:276:1
 returns-2 : tie.Need-returns-2
 returns-2 c = search miss-then-first
 

@@ -3,33 +3,22 @@ use Rattle.looks.proofs.LookLaws.{miss-join, miss-then-first}
 use borrow.Author.Needs.{needs}
 use Rattle.looks.proofs.far_same.Statement.{statement}
 use Rattle.looks.proofs.far_same.Tie as tie
-use Rattle.looks.proofs.far_same.Reads as reads
-use Rattle.looks.proofs.far_same.Lts as lts
-use Rattle.looks.proofs.crawl_same.Reads as crawl-same-reads
-use Rattle.looks.proofs.first_same.Reads as first-same-reads
-use Rattle.looks.proofs.skim_same.Reads as skim-same-reads
 
--- src/lib.rt:183:9
 skim-same-requires : tie.Need-skim-same-requires
 skim-same-requires c κs = search needs
 
--- src/lib.rt:184:8
 sub-if1 : tie.Need-sub-if1
 sub-if1 c = search needs
 
--- src/lib.rt:185:9
 crawl-same-requires : tie.Need-crawl-same-requires
 crawl-same-requires c κs = search needs
 
--- src/lib.rt:185:9
 returns : tie.Need-returns
 returns c = search miss-join
 
--- src/lib.rt:187:5
 first-same-requires : tie.Need-first-same-requires
 first-same-requires c κs = search needs
 
--- src/lib.rt:178:1
 returns-2 : tie.Need-returns-2
 returns-2 c = search miss-then-first
 

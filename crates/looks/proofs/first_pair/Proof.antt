@@ -5,11 +5,6 @@ use Rattle.looks.specs.Looks.{pairAt}
 use borrow.Author.Needs.{needs}
 use Rattle.looks.proofs.first_pair.Statement.{statement}
 use Rattle.looks.proofs.first_pair.Tie as tie
-use Rattle.looks.proofs.first_pair.Reads as reads
-use Rattle.looks.proofs.first_pair.Lts as lts
-use Rattle.looks.proofs.is_pair.Reads as is-pair-reads
-use Rattle.looks.proofs.nearer.Reads as nearer-reads
-use Rattle.looks.proofs.placed.Reads as placed-reads
 
 abbrev Inv-loop : tie.InvT-loop
 Inv-loop text a b x y i f₀ j₀ f j = Nearest (pairAt text a b x y) i f j
@@ -17,51 +12,39 @@ Inv-loop text a b x y i f₀ j₀ f j = Nearest (pairAt text a b x y) i f j
 abbrev μ-loop : tie.MeasureT-loop
 μ-loop text a b x y i f₀ j₀ f j = 64 - j
 
--- src/lib.rt:337:5
 loop-holds : tie.Need-loop-holds Inv-loop μ-loop
 loop-holds c = near-begun _ _
 
--- src/lib.rt:338:17
 cast-k : tie.Need-cast-k Inv-loop μ-loop
 cast-k c = search needs
 
--- src/lib.rt:339:45
 add-is-pair : tie.Need-add-is-pair Inv-loop μ-loop
 add-is-pair c = search needs
 
--- src/lib.rt:339:13
 is-pair-requires : tie.Need-is-pair-requires Inv-loop μ-loop
 is-pair-requires c κs = search needs
 
--- src/lib.rt:340:23
 placed-requires : tie.Need-placed-requires Inv-loop μ-loop
 placed-requires c κs = search needs
 
--- src/lib.rt:340:9
 nearer-requires : tie.Need-nearer-requires Inv-loop μ-loop
 nearer-requires c κs = search needs
 
--- src/lib.rt:341:9
 add-j : tie.Need-add-j Inv-loop μ-loop
 add-j c = search needs
 
--- src/lib.rt:337:5
 loop-less : tie.Need-loop-less Inv-loop μ-loop
 loop-less c = search needs
 
--- src/lib.rt:337:5
 loop-again : tie.Need-loop-again Inv-loop μ-loop
 loop-again c = search pair-near
 
--- src/lib.rt:343:9
 cast-result : tie.Need-cast-result Inv-loop μ-loop
 cast-result c = search needs
 
--- src/lib.rt:343:5
 add-result : tie.Need-add-result Inv-loop μ-loop
 add-result c = search needs
 
--- src/lib.rt:330:1
 returns : tie.Need-returns Inv-loop μ-loop
 returns c = search near-over
 

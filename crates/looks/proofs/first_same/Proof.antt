@@ -5,10 +5,6 @@ use Rattle.looks.specs.Looks.{same}
 use borrow.Author.Needs.{needs}
 use Rattle.looks.proofs.first_same.Statement.{statement}
 use Rattle.looks.proofs.first_same.Tie as tie
-use Rattle.looks.proofs.first_same.Reads as reads
-use Rattle.looks.proofs.first_same.Lts as lts
-use Rattle.looks.proofs.nearer.Reads as nearer-reads
-use Rattle.looks.proofs.placed.Reads as placed-reads
 
 abbrev Inv-loop : tie.InvT-loop
 Inv-loop text x i f₀ j₀ f j = Nearest (same text x) i f j
@@ -16,51 +12,39 @@ Inv-loop text x i f₀ j₀ f j = Nearest (same text x) i f j
 abbrev μ-loop : tie.MeasureT-loop
 μ-loop text x i f₀ j₀ f j = 64 - j
 
--- src/lib.rt:131:5
 loop-holds : tie.Need-loop-holds Inv-loop μ-loop
 loop-holds c = near-begun _ _
 
--- src/lib.rt:132:17
 cast-k : tie.Need-cast-k Inv-loop μ-loop
 cast-k c = search needs
 
--- src/lib.rt:133:24
 add-hit : tie.Need-add-hit Inv-loop μ-loop
 add-hit c = search needs
 
--- src/lib.rt:133:19
 shared-slice-read-hit : tie.Need-shared-slice-read-hit Inv-loop μ-loop
 shared-slice-read-hit c = search needs
 
--- src/lib.rt:134:23
 placed-requires : tie.Need-placed-requires Inv-loop μ-loop
 placed-requires c κs = search needs
 
--- src/lib.rt:134:9
 nearer-requires : tie.Need-nearer-requires Inv-loop μ-loop
 nearer-requires c κs = search needs
 
--- src/lib.rt:135:9
 add-j : tie.Need-add-j Inv-loop μ-loop
 add-j c = search needs
 
--- src/lib.rt:131:5
 loop-less : tie.Need-loop-less Inv-loop μ-loop
 loop-less c = search needs
 
--- src/lib.rt:131:5
 loop-again : tie.Need-loop-again Inv-loop μ-loop
 loop-again c = search same-near
 
--- src/lib.rt:137:9
 cast-result : tie.Need-cast-result Inv-loop μ-loop
 cast-result c = search needs
 
--- src/lib.rt:137:5
 add-result : tie.Need-add-result Inv-loop μ-loop
 add-result c = search needs
 
--- src/lib.rt:125:1
 returns : tie.Need-returns Inv-loop μ-loop
 returns c = search near-over
 

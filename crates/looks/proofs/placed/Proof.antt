@@ -1,16 +1,11 @@
 -- `looks::placed` meets its contract. Its laws are in this crate's `proofs/`; `search LAW` finds a law's premises in `c`. Assumes nothing.
 use Rattle.looks.proofs.LookLaws.{placed-hit, placed-end}
-use borrow.Author.Needs.{needs}
 use Rattle.looks.proofs.placed.Statement.{statement}
 use Rattle.looks.proofs.placed.Tie as tie
-use Rattle.looks.proofs.placed.Reads as reads
-use Rattle.looks.proofs.placed.Lts as lts
 
--- src/lib.rt:82:9
 returns : tie.Need-returns
 returns c = search placed-hit
 
--- src/lib.rt:77:1
 returns-2 : tie.Need-returns-2
 returns-2 c = search placed-end
 

@@ -5,10 +5,6 @@ use Rattle.looks.specs.Looks.{Missed, between}
 use borrow.Author.Needs.{needs}
 use Rattle.looks.proofs.skim_between.Statement.{statement}
 use Rattle.looks.proofs.skim_between.Tie as tie
-use Rattle.looks.proofs.skim_between.Reads as reads
-use Rattle.looks.proofs.skim_between.Lts as lts
-use Rattle.looks.proofs.any_between.Reads as any-between-reads
-use Rattle.looks.proofs.look_at.Reads as look-at-reads
 
 abbrev Inv-loop : tie.InvT-loop
 Inv-loop text lo hi i end last i₀ i' = Missed (between text lo hi) i end i'
@@ -16,39 +12,30 @@ Inv-loop text lo hi i end last i₀ i' = Missed (between text lo hi) i end i'
 abbrev μ-loop : tie.MeasureT-loop
 μ-loop text lo hi i end last i₀ i' = end - i'
 
--- src/lib.rt:245:9
 returns : tie.Need-returns Inv-loop μ-loop
 returns c = search miss-begun
 
--- src/lib.rt:249:5
 loop-holds : tie.Need-loop-holds Inv-loop μ-loop
 loop-holds c = search miss-begun
 
--- src/lib.rt:250:13
 look-at-requires : tie.Need-look-at-requires Inv-loop μ-loop
 look-at-requires c κs = search needs
 
--- src/lib.rt:251:12
 any-between-requires : tie.Need-any-between-requires Inv-loop μ-loop
 any-between-requires c κs = search needs
 
--- src/lib.rt:252:13
 returns-2 : tie.Need-returns-2 Inv-loop μ-loop
 returns-2 c = search needs
 
--- src/lib.rt:254:13
 add-i : tie.Need-add-i Inv-loop μ-loop
 add-i c = search needs
 
--- src/lib.rt:249:5
 loop-less : tie.Need-loop-less Inv-loop μ-loop
 loop-less c = search needs
 
--- src/lib.rt:249:5
 loop-again : tie.Need-loop-again Inv-loop μ-loop
 loop-again c = search miss-next
 
--- src/lib.rt:239:1
 returns-3 : tie.Need-returns-3 Inv-loop μ-loop
 returns-3 c = search needs
 

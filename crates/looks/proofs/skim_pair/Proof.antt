@@ -5,10 +5,6 @@ use Rattle.looks.specs.Looks.{Missed, pairAt}
 use borrow.Author.Needs.{needs}
 use Rattle.looks.proofs.skim_pair.Statement.{statement}
 use Rattle.looks.proofs.skim_pair.Tie as tie
-use Rattle.looks.proofs.skim_pair.Reads as reads
-use Rattle.looks.proofs.skim_pair.Lts as lts
-use Rattle.looks.proofs.any_pair.Reads as any-pair-reads
-use Rattle.looks.proofs.look_at.Reads as look-at-reads
 
 abbrev Inv-loop : tie.InvT-loop
 Inv-loop text a b x y i end last i₀ i' = Missed (pairAt text a b x y) i end i'
@@ -16,39 +12,30 @@ Inv-loop text a b x y i end last i₀ i' = Missed (pairAt text a b x y) i end i'
 abbrev μ-loop : tie.MeasureT-loop
 μ-loop text a b x y i end last i₀ i' = end - i'
 
--- src/lib.rt:354:9
 returns : tie.Need-returns Inv-loop μ-loop
 returns c = search miss-begun
 
--- src/lib.rt:358:5
 loop-holds : tie.Need-loop-holds Inv-loop μ-loop
 loop-holds c = search miss-begun
 
--- src/lib.rt:359:13
 look-at-requires : tie.Need-look-at-requires Inv-loop μ-loop
 look-at-requires c κs = search needs
 
--- src/lib.rt:360:12
 any-pair-requires : tie.Need-any-pair-requires Inv-loop μ-loop
 any-pair-requires c κs = search needs
 
--- src/lib.rt:361:13
 returns-2 : tie.Need-returns-2 Inv-loop μ-loop
 returns-2 c = search needs
 
--- src/lib.rt:363:13
 add-i : tie.Need-add-i Inv-loop μ-loop
 add-i c = search needs
 
--- src/lib.rt:358:5
 loop-less : tie.Need-loop-less Inv-loop μ-loop
 loop-less c = search needs
 
--- src/lib.rt:358:5
 loop-again : tie.Need-loop-again Inv-loop μ-loop
 loop-again c = search miss-next
 
--- src/lib.rt:347:1
 returns-3 : tie.Need-returns-3 Inv-loop μ-loop
 returns-3 c = search needs
 

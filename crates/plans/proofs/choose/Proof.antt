@@ -3,9 +3,6 @@ use Prim.Native.Nat.{_-_, _≤_}
 use borrow.Author.Needs.{needs}
 use Rattle.plans.proofs.choose.Statement.{statement}
 use Rattle.plans.proofs.choose.Tie as tie
-use Rattle.plans.proofs.choose.Reads as reads
-use Rattle.plans.proofs.choose.Lts as lts
-use Rattle.plans.proofs.lone.Reads as lone-reads
 
 abbrev Inv-loop : tie.InvT-loop
 Inv-loop table free rank rare r₀ r = 0 ≤ r
@@ -13,35 +10,27 @@ Inv-loop table free rank rare r₀ r = 0 ≤ r
 abbrev μ-loop : tie.MeasureT-loop
 μ-loop table free rank rare r₀ r = 256 - r
 
--- src/lib.rt:250:5
 loop-holds : tie.Need-loop-holds Inv-loop μ-loop
 loop-holds c = search needs
 
--- src/lib.rt:251:17
 element-copy-out-c : tie.Need-element-copy-out-c Inv-loop μ-loop
 element-copy-out-c c = search needs
 
--- src/lib.rt:252:13
 lone-requires : tie.Need-lone-requires Inv-loop μ-loop
 lone-requires c κs = search needs
 
--- src/lib.rt:254:13
 returns : tie.Need-returns Inv-loop μ-loop
 returns c = search needs
 
--- src/lib.rt:260:9
 add-r : tie.Need-add-r Inv-loop μ-loop
 add-r c = search needs
 
--- src/lib.rt:250:5
 loop-less : tie.Need-loop-less Inv-loop μ-loop
 loop-less c = search needs
 
--- src/lib.rt:250:5
 loop-again : tie.Need-loop-again Inv-loop μ-loop
 loop-again c = search needs
 
--- src/lib.rt:244:1
 returns-2 : tie.Need-returns-2 Inv-loop μ-loop
 returns-2 c = search needs
 

@@ -3,32 +3,22 @@ use Rattle.plans.proofs.Fitting.{clear-no, clear-yes}
 use borrow.Author.Needs.{needs}
 use Rattle.plans.proofs.clear.Statement.{statement}
 use Rattle.plans.proofs.clear.Tie as tie
-use Rattle.plans.proofs.clear.Reads as reads
-use Rattle.plans.proofs.clear.Lts as lts
-use Rattle.looks.proofs.index.Reads as index-reads
-use Rattle.plans.proofs.power.Reads as power-reads
 
--- src/lib.rt:428:9
 returns : tie.Need-returns
 returns c = search clear-no
 
--- src/lib.rt:430:19
 index-requires : tie.Need-index-requires
 index-requires c κs = search needs
 
--- src/lib.rt:430:13
 mul-e : tie.Need-mul-e
 mul-e c = search needs
 
--- src/lib.rt:430:13
 shared-slice-read-e : tie.Need-shared-slice-read-e
 shared-slice-read-e c = search needs
 
--- src/lib.rt:431:18
 power-requires : tie.Need-power-requires
 power-requires c κs = search needs
 
--- src/lib.rt:423:1
 returns-2 : tie.Need-returns-2
 returns-2 c = search clear-yes
 

@@ -3,32 +3,22 @@ use Rattle.plans.proofs.Fitting.{others-straight, others-turned}
 use borrow.Author.Needs.{needs}
 use Rattle.plans.proofs.others.Statement.{statement}
 use Rattle.plans.proofs.others.Tie as tie
-use Rattle.plans.proofs.others.Reads as reads
-use Rattle.plans.proofs.others.Lts as lts
-use Rattle.looks.proofs.index.Reads as index-reads
-use Rattle.plans.proofs.others_in_order.Reads as others-in-order-reads
 
--- src/lib.rt:393:9
 index-requires : tie.Need-index-requires
 index-requires c κs = search needs
 
--- src/lib.rt:394:9
 index-requires-2 : tie.Need-index-requires-2
 index-requires-2 c κs = search needs
 
--- src/lib.rt:396:9
 others-in-order-requires : tie.Need-others-in-order-requires
 others-in-order-requires c κs = search needs
 
--- src/lib.rt:396:9
 returns : tie.Need-returns
 returns c = search others-straight
 
--- src/lib.rt:398:5
 others-in-order-requires-2 : tie.Need-others-in-order-requires-2
 others-in-order-requires-2 c κs = search needs
 
--- src/lib.rt:389:1
 returns-2 : tie.Need-returns-2
 returns-2 c = search others-turned
 

@@ -5,8 +5,6 @@ use Rattle.plans.specs.Plans.{Union}
 use borrow.Author.Needs.{needs}
 use Rattle.plans.proofs.union.Statement.{statement}
 use Rattle.plans.proofs.union.Tie as tie
-use Rattle.plans.proofs.union.Reads as reads
-use Rattle.plans.proofs.union.Lts as lts
 
 abbrev Inv-loop : tie.InvT-loop
 Inv-loop table lo hi u₀ c₀ u c = Union table lo c u
@@ -14,31 +12,24 @@ Inv-loop table lo hi u₀ c₀ u c = Union table lo c u
 abbrev μ-loop : tie.MeasureT-loop
 μ-loop table lo hi u₀ c₀ u c = hi - c
 
--- src/lib.rt:368:5
 loop-holds : tie.Need-loop-holds Inv-loop μ-loop
 loop-holds c = search unite-begun
 
--- src/lib.rt:369:17
 mul-u : tie.Need-mul-u Inv-loop μ-loop
 mul-u c = search needs
 
--- src/lib.rt:369:17
 shared-slice-read-u : tie.Need-shared-slice-read-u Inv-loop μ-loop
 shared-slice-read-u c = search needs
 
--- src/lib.rt:370:9
 add-c : tie.Need-add-c Inv-loop μ-loop
 add-c c = search needs
 
--- src/lib.rt:368:5
 loop-less : tie.Need-loop-less Inv-loop μ-loop
 loop-less c = search needs
 
--- src/lib.rt:368:5
 loop-again : tie.Need-loop-again Inv-loop μ-loop
 loop-again c = search unite-on
 
--- src/lib.rt:361:1
 returns : tie.Need-returns Inv-loop μ-loop
 returns c = search unite-over
 

@@ -6,9 +6,6 @@ use Rattle.searches.proofs.Searches.{skim-begun, skim-quiet}
 use borrow.Author.Needs.{needs}
 use Rattle.searches.proofs.skim_two.Statement.{statement}
 use Rattle.searches.proofs.skim_two.Tie as tie
-use Rattle.searches.proofs.skim_two.Reads as reads
-use Rattle.searches.proofs.skim_two.Lts as lts
-use Rattle.windows.proofs.is_quiet.Reads as is-quiet-reads
 
 abbrev Inv-loop : tie.InvT-loop
 Inv-loop reversed first rule text w w₀ k₀ w' k = SkimmedIs reversed rule text w w' k
@@ -16,39 +13,30 @@ Inv-loop reversed first rule text w w₀ k₀ w' k = SkimmedIs reversed rule tex
 abbrev μ-loop : tie.MeasureT-loop
 μ-loop reversed first rule text w w₀ k₀ w' k = length text - w'
 
--- src/lib.rt:173:5
 loop-holds : tie.Need-loop-holds Inv-loop μ-loop
 loop-holds c = search skim-begun
 
--- src/lib.rt:173:28
 sub-if1 : tie.Need-sub-if1 Inv-loop μ-loop
 sub-if1 c = search needs
 
--- src/lib.rt:175:13
 is-quiet-requires : tie.Need-is-quiet-requires Inv-loop μ-loop
 is-quiet-requires c κs = (search needs, (search needs, (search needs, search needs)))
 
--- src/lib.rt:176:13
 returns : tie.Need-returns Inv-loop μ-loop
 returns c = search needs
 
--- src/lib.rt:181:9
 add-w : tie.Need-add-w Inv-loop μ-loop
 add-w c = search needs
 
--- src/lib.rt:182:9
 add-k : tie.Need-add-k Inv-loop μ-loop
 add-k c = search needs
 
--- src/lib.rt:173:5
 loop-less : tie.Need-loop-less Inv-loop μ-loop
 loop-less c = search needs
 
--- src/lib.rt:173:5
 loop-again : tie.Need-loop-again Inv-loop μ-loop
 loop-again c = search skim-quiet
 
--- src/lib.rt:165:1
 returns-2 : tie.Need-returns-2 Inv-loop μ-loop
 returns-2 c = search needs
 

@@ -7,11 +7,6 @@ use Rattle.stepping.proofs.Passing.{stay-on}
 use borrow.Author.Needs.{needs}
 use Rattle.stepping.proofs.staying.Statement.{statement}
 use Rattle.stepping.proofs.staying.Tie as tie
-use Rattle.stepping.proofs.staying.Reads as reads
-use Rattle.stepping.proofs.staying.Lts as lts
-use Rattle.looks.proofs.index.Reads as index-reads
-use Rattle.stepping.proofs.stays_at.Reads as stays-at-reads
-use Rattle.words.proofs.reports.Reads as reports-reads
 
 abbrev Inv-loop : tie.InvT-loop
 Inv-loop table m q d text i j₀ j = Passed table m d text i j
@@ -19,55 +14,42 @@ Inv-loop table m q d text i j₀ j = Passed table m d text i j
 abbrev μ-loop : tie.MeasureT-loop
 μ-loop table m q d text i j₀ j = length text - j
 
--- src/lib.rt:252:8
 reports-requires : tie.Need-reports-requires Inv-loop μ-loop
 reports-requires c κs = search needs
 
--- src/lib.rt:253:9
 returns : tie.Need-returns Inv-loop μ-loop
 returns c = search pass-none
 
--- src/lib.rt:256:5
 loop-holds : tie.Need-loop-holds Inv-loop μ-loop
 loop-holds c = search pass-none
 
--- src/lib.rt:257:30
 shared-slice-read-index : tie.Need-shared-slice-read-index Inv-loop μ-loop
 shared-slice-read-index c = search needs
 
--- src/lib.rt:257:13
 index-requires : tie.Need-index-requires Inv-loop μ-loop
 index-requires c κs = search needs
 
--- src/lib.rt:258:25
 mul-stays-at : tie.Need-mul-stays-at Inv-loop μ-loop
 mul-stays-at c = search needs
 
--- src/lib.rt:258:25
 shared-slice-read-stays-at : tie.Need-shared-slice-read-stays-at Inv-loop μ-loop
 shared-slice-read-stays-at c = search needs
 
--- src/lib.rt:258:13
 stays-at-requires : tie.Need-stays-at-requires Inv-loop μ-loop
 stays-at-requires c κs = search needs
 
--- src/lib.rt:259:13
 returns-2 : tie.Need-returns-2 Inv-loop μ-loop
 returns-2 c = search needs
 
--- src/lib.rt:261:9
 add-j : tie.Need-add-j Inv-loop μ-loop
 add-j c = search needs
 
--- src/lib.rt:256:5
 loop-less : tie.Need-loop-less Inv-loop μ-loop
 loop-less c = search needs
 
--- src/lib.rt:256:5
 loop-again : tie.Need-loop-again Inv-loop μ-loop
 loop-again c = search stay-on
 
--- src/lib.rt:244:1
 returns-3 : tie.Need-returns-3 Inv-loop μ-loop
 returns-3 c = search needs
 

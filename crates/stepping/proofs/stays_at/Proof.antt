@@ -1,17 +1,11 @@
 -- `stepping::stays_at` meets its contract. Its laws are in this crate's `proofs/`; `search LAW` finds a law's premises in `c`. Assumes nothing.
 use Rattle.stepping.proofs.Steps.{has-home, stays-where}
-use borrow.Author.Needs.{needs}
 use Rattle.stepping.proofs.stays_at.Statement.{statement}
 use Rattle.stepping.proofs.stays_at.Tie as tie
-use Rattle.stepping.proofs.stays_at.Reads as reads
-use Rattle.stepping.proofs.stays_at.Lts as lts
-use Rattle.stepping.proofs.move_home.Reads as move-home-reads
 
--- src/lib.rt:239:9
 move-home-requires : tie.Need-move-home-requires
 move-home-requires c κs = search has-home
 
--- src/lib.rt:234:1
 returns : tie.Need-returns
 returns c = search stays-where
 

@@ -3,10 +3,6 @@ use Rattle.stepping.proofs.Steps.{has-home, step-still, step-flood}
 use borrow.Author.Needs.{needs}
 use Rattle.stepping.proofs.step_over.Statement.{statement}
 use Rattle.stepping.proofs.step_over.Tie as tie
-use Rattle.stepping.proofs.step_over.Reads as reads
-use Rattle.stepping.proofs.step_over.Lts as lts
-use Rattle.stepping.proofs.move_home.Reads as move-home-reads
-use Rattle.words.proofs.flood.Reads as flood-reads
 
 move-home-requires : tie.Need-move-home-requires
 move-home-requires c κs = search has-home

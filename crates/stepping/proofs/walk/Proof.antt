@@ -3,13 +3,6 @@ use Rattle.stepping.proofs.Steps.{settled-by}
 use borrow.Author.Needs.{needs}
 use Rattle.stepping.proofs.walk.Statement.{statement}
 use Rattle.stepping.proofs.walk.Tie as tie
-use Rattle.stepping.proofs.walk.Reads as reads
-use Rattle.stepping.proofs.walk.Lts as lts
-use Rattle.stepping.proofs.is_settled.Reads as is-settled-reads
-use Rattle.stepping.proofs.walk_one.Reads as walk-one-reads
-use Rattle.stepping.proofs.walk_over.Reads as walk-over-reads
-use Rattle.stepping.proofs.walk_plain.Reads as walk-plain-reads
-use Rattle.stepping.proofs.walk_staying.Reads as walk-staying-reads
 
 is-settled-requires : tie.Need-is-settled-requires
 is-settled-requires c κs = search needs

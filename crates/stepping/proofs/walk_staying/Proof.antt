@@ -5,12 +5,6 @@ use Rattle.stepping.proofs.Turns.{Strolling, set-out, stroll-over, stay
 use borrow.Author.Needs.{needs}
 use Rattle.stepping.proofs.walk_staying.Statement.{statement}
 use Rattle.stepping.proofs.walk_staying.Tie as tie
-use Rattle.stepping.proofs.walk_staying.Reads as reads
-use Rattle.stepping.proofs.walk_staying.Lts as lts
-use Rattle.looks.proofs.index.Reads as index-reads
-use Rattle.stepping.proofs.staying.Reads as staying-reads
-use Rattle.stepping.proofs.step_over.Reads as step-over-reads
-use Rattle.words.proofs.reports.Reads as reports-reads
 
 abbrev Inv-loop : tie.InvT-loop
 Inv-loop t m q home stop text ends₀ d₀ at₀ n₀ i₀ ends d at n i = Strolling t m text ends₀ d₀ at₀ n₀ i₀ ends d at n i
@@ -18,115 +12,87 @@ Inv-loop t m q home stop text ends₀ d₀ at₀ n₀ i₀ ends d at n i = Strol
 abbrev μ-loop : tie.MeasureT-loop
 μ-loop t m q home stop text ends₀ d₀ at₀ n₀ i₀ ends d at n i = length text - i
 
--- src/lib.rt:288:5
 loop-holds : tie.Need-loop-holds Inv-loop μ-loop
 loop-holds c = search set-out
 
--- src/lib.rt:289:13
 staying-requires : tie.Need-staying-requires Inv-loop μ-loop
 staying-requires c κs = search needs
 
--- src/lib.rt:290:21
-sub-gone : tie.Need-sub-gone Inv-loop μ-loop
-sub-gone c = search needs
+sub-stayed : tie.Need-sub-stayed Inv-loop μ-loop
+sub-stayed c = search needs
 
--- src/lib.rt:290:20
-cast-gone : tie.Need-cast-gone Inv-loop μ-loop
-cast-gone c = search needs
+cast-stayed : tie.Need-cast-stayed Inv-loop μ-loop
+cast-stayed c = search needs
 
--- src/lib.rt:291:20
 add-here : tie.Need-add-here Inv-loop μ-loop
 add-here c = search needs
 
--- src/lib.rt:293:13
 same-length : tie.Need-same-length Inv-loop μ-loop
 same-length c = search needs
 
--- src/lib.rt:293:13
 returns : tie.Need-returns Inv-loop μ-loop
 returns c = search stay-over
 
--- src/lib.rt:300:30
 shared-slice-read-index : tie.Need-shared-slice-read-index Inv-loop μ-loop
 shared-slice-read-index c = search needs
 
--- src/lib.rt:300:13
 index-requires : tie.Need-index-requires Inv-loop μ-loop
 index-requires c κs = search needs
 
--- src/lib.rt:301:26
 mul-step-over : tie.Need-mul-step-over Inv-loop μ-loop
 mul-step-over c = search needs
 
--- src/lib.rt:301:26
 shared-slice-read-step-over : tie.Need-shared-slice-read-step-over Inv-loop μ-loop
 shared-slice-read-step-over c = search needs
 
--- src/lib.rt:301:9
 step-over-requires : tie.Need-step-over-requires Inv-loop μ-loop
 step-over-requires c κs = search needs
 
--- src/lib.rt:302:14
 add-at : tie.Need-add-at Inv-loop μ-loop
 add-at c = search needs
 
--- src/lib.rt:303:13
 add-i : tie.Need-add-i Inv-loop μ-loop
 add-i c = search needs
 
--- src/lib.rt:304:12
 reports-requires : tie.Need-reports-requires Inv-loop μ-loop
 reports-requires c κs = search needs
 
--- src/lib.rt:305:13
 mul-ends : tie.Need-mul-ends Inv-loop μ-loop
 mul-ends c = search needs
 
--- src/lib.rt:305:13
 slice-write-ends : tie.Need-slice-write-ends Inv-loop μ-loop
 slice-write-ends c = search needs
 
--- src/lib.rt:306:13
 add-n : tie.Need-add-n Inv-loop μ-loop
 add-n c = search needs
 
--- src/lib.rt:288:5
 loop-less : tie.Need-loop-less Inv-loop μ-loop
 loop-less c = search needs
 
--- src/lib.rt:288:5
 loop-again : tie.Need-loop-again Inv-loop μ-loop
 loop-again c = search stay-ended
 
--- src/lib.rt:309:17
 same-length-2 : tie.Need-same-length-2 Inv-loop μ-loop
 same-length-2 c = search needs
 
--- src/lib.rt:309:17
 returns-2 : tie.Need-returns-2 Inv-loop μ-loop
 returns-2 c = search stay-stopped
 
--- src/lib.rt:288:5
 loop-less-2 : tie.Need-loop-less-2 Inv-loop μ-loop
 loop-less-2 c = search needs
 
--- src/lib.rt:288:5
 loop-again-2 : tie.Need-loop-again-2 Inv-loop μ-loop
 loop-again-2 c = search stay-passed
 
--- src/lib.rt:288:5
 loop-less-3 : tie.Need-loop-less-3 Inv-loop μ-loop
 loop-less-3 c = search needs
 
--- src/lib.rt:288:5
 loop-again-3 : tie.Need-loop-again-3 Inv-loop μ-loop
 loop-again-3 c = search stay-passed
 
--- src/lib.rt:267:1
 same-length-3 : tie.Need-same-length-3 Inv-loop μ-loop
 same-length-3 c = search needs
 
--- src/lib.rt:267:1
 returns-3 : tie.Need-returns-3 Inv-loop μ-loop
 returns-3 c = search stroll-over
 
@@ -138,8 +104,8 @@ walk-staying-spec =
     μ-loop
     loop-holds
     staying-requires
-    sub-gone
-    cast-gone
+    sub-stayed
+    cast-stayed
     add-here
     same-length
     returns
