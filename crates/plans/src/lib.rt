@@ -334,16 +334,7 @@ fn offset(p: u32) -> usize
 
 // Whether the bits p and q are those of two positions with one byte each, x and y, in a plain
 // beginning.
-fn fits(
-    table: &[u64],
-    repeats: u64,
-    optional: u64,
-    top: u64,
-    p: u32,
-    q: u32,
-    x: u8,
-    y: u8,
-) -> bool
+fn fits(table: &[u64], repeats: u64, optional: u64, top: u64, p: u32, q: u32, x: u8, y: u8) -> bool
     requires { ⌜ length (now table) ≡ 256 ⌝ }
     ensures { λ r. ⌜ Fit (now (table .entry)) repeats optional top p q x y r ⌝ }
 {
