@@ -13,10 +13,11 @@ use mir.Syntax.{w64}
 use borrow.Rule.Slice.PartMut.{putMid, midOf}
 use Rattle.model.specs.References.{formLimit, none, referenceAt, utf8, canGrow, heldTail, letOut}
 use Rattle.model.proofs.LentLists.{sets-append, sets-from}
+use Rattle.runs.specs.Runs.{RunCopied}
 use Rattle.references.specs.declared.Reference.{Reference}
 use Rattle.references.specs.declared.Reference.the-variants.{Code, Plain, Open}
 use Rattle.references.specs.Reader.{reading, Moves, ReadIs}
-use Rattle.references.specs.Decoder.{PutFine, Put, RunCopied}
+use Rattle.references.specs.Decoder.{PutFine, Put}
 use Rattle.references.proofs.Cuts.{letOut-reference, held-reference, letOut-none, held-none, held-open, letOut-run, held-run, all-held}
 use Rattle.references.proofs.Readings.{code-told, plain-told, open-told}
 use Rattle.filling.specs.declared.Token.{Token}

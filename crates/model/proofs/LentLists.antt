@@ -1,11 +1,11 @@
 -- Stores into a lent list: one run after another, stores into a part of it, and what they make of the whole. Assumes nothing.
-use mathlib.Core.Path.{_≡_, sym, _∙_}
+use mathlib.Core.Path.{_≡_, sym, ap, _∙_}
 use mathlib.Core.List.{List, [], _∷_, _++_, append-assoc}
 use Prim.Native.Nat.{ℕ, suc, _+_, _-_, _≤_}
 use native.Mathlib.Nat.{add-zero, add-suc, suc-add, zero-add}
 use native.Mathlib.Omega.{arith}
 use lib.ListN.{length, set, take, drop, length-drop, take-append-drop}
-use lib.Seq.{sets, sets-eq, drop-drop, drop-append-le, length-take-le}
+use lib.Seq.{sets, sets-eq, length-sets, drop-drop, drop-append-le, length-take-le}
 use borrow.Rule.Slice.PartMut.{putMid, midOf}
 use Rattle.model.specs.NumberedAnswers.{overwrite}
 
@@ -33,3 +33,17 @@ sets-from l a vs h = sets-mid l a (length l - a) vs (omega arith) (omega arith)
 -- from the front: what a call's contract says of the list
 pub sets-overwrite : (l vs : List ℕ) → length vs ≤ length l → sets l 0 vs ≡ overwrite l vs
 sets-overwrite l vs h = sets-eq vs l 0 (omega arith) ∙ rw zero-add
+
+-- to write, after a run, what stands there already is to write the run
+pub sets-kept : (l : List ℕ) (a k : ℕ) (vs : List ℕ) → a + k ≤ length l → length vs ≤ k → sets l a (vs ++ drop (length vs) (take k (drop a l))) ≡ sets l a vs
+sets-kept l a k vs h v =
+    let x : List ℕ = take k (drop a l) in
+    let m : length x ≡ k = length-take-le k (drop a l) (omega (arith, length-drop a l)) in
+    let w : List ℕ = vs ++ drop (length vs) x in
+    let e : sets x 0 vs ≡ w = sets-overwrite x vs (omega arith) in
+    let n : length w ≡ k = ap length (sym e) ∙ length-sets x 0 vs ∙ m in
+    sets-eq w l a (omega arith)
+    ∙ append-assoc (take a l) w (drop (a + length w) l)
+    ∙ ap (λ (y : List ℕ). take a l ++ (w ++ y)) (ap (λ (j : ℕ). drop (a + j) l) n ∙ sym (drop-drop k a l))
+    ∙ ap (putMid a k l) (sym e)
+    ∙ sets-mid l a k vs h v

@@ -3,6 +3,5 @@ pub mod Cuts
 pub mod Numbers
 pub mod Readings
 pub mod Writing
-pub mod Runs
 pub mod Tokens
 pub mod Crossings

@@ -13,11 +13,12 @@ use Rattle.model.specs.References.{formLimit, none, found, referenceAt, utf8, d
 use Rattle.model.specs.NumberedAnswers.{textLimit}
 use Rattle.model.proofs.LentLists.{sets-append, sets-from, sets-overwrite}
 use Rattle.model.proofs.Decoding.{decode-none}
+use Rattle.runs.specs.Runs.{RunCopied}
 use Rattle.references.specs.declared.Reference.{Reference}
 use Rattle.references.specs.declared.Reference.the-variants.{Code, Plain, Open}
 use Rattle.references.specs.declared.Place.{Place}
 use Rattle.references.specs.Reader.{reading, Moves, ReadIs}
-use Rattle.references.specs.Decoder.{decoded, PutFine, Put, RunCopied, TokenIs, Decoded, refusing, counting, decodeAnswer, decodeBuffer, DecodeIs}
+use Rattle.references.specs.Decoder.{decoded, PutFine, Put, TokenIs, Decoded, refusing, counting, decodeAnswer, decodeBuffer, DecodeIs}
 use Rattle.references.proofs.Cuts.{decode-reference, decode-run}
 use Rattle.references.proofs.Readings.{code-told, plain-told, open-told}
 

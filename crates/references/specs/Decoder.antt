@@ -1,14 +1,12 @@
 -- What the writer and the decoder give. Assumes nothing.
 use mathlib.Core.Path.{_≡_}
-use mathlib.Core.Bool.{Bool, false, cond}
+use mathlib.Core.Bool.{cond}
 use mathlib.Core.List.{List, _++_}
 use Prim.Native.Nat.{ℕ, _+_, _≤_, _<_}
-use lib.Dec.{T, eqb}
-use lib.ListN.{length, take, drop, getD}
+use lib.Dec.{eqb}
+use lib.ListN.{length, drop}
 use lib.Seq.{sets}
-use Rattle.model.specs.Ascii.{byteOf}
-use Rattle.model.specs.Occurrence.{all}
-use Rattle.model.specs.References.{formLimit, utf8, decode, notAmp}
+use Rattle.model.specs.References.{formLimit, utf8, decode}
 use Rattle.model.specs.NumberedAnswers.{wholeRefusal, overwrite}
 use Rattle.references.specs.Reader.{codeLimit}
 use Rattle.references.specs.declared.Place.{Place}
@@ -27,31 +25,6 @@ pub record PutFine (out : List ℕ) (code : ℕ) : Type 0 where
 pub record Put (out : List ℕ) (code r : ℕ) (out′ : List ℕ) : Type 0 where
   pub count : r ≡ length (utf8 code)
   pub list : out′ ≡ sets out 0 (utf8 code)
-
--- `any_amp`: whether one of the k bytes from i on is a `&`; only the answer no is of use
-pub record Looked (s : List ℕ) (i k : ℕ) (r : Bool) : Type 0 where
-  pub none : r ≡ false → T (all notAmp (take k (drop i s)))
-
--- so many bytes, none of them `&` ..
-pub record PlainIs (s : List ℕ) (r : ℕ) : Type 0 where
-  pub fits : r ≤ length s
-  pub plain : T (all notAmp (take r s))
-
--- .. and then a `&` or the end
-pub record RunIs (s : List ℕ) (r : ℕ) : Type 0 where
-  pub fits : r ≤ length s
-  pub plain : T (all notAmp (take r s))
-  pub stops : r < length s → getD s r 0 ≡ byteOf "&"
-
--- `copy_blocks`: so many plain bytes stand at the buffer's front
-pub record Copied (raw out : List ℕ) (r : ℕ) (out′ : List ℕ) : Type 0 where
-  pub run : PlainIs raw r
-  pub list : out′ ≡ sets out 0 (take r raw)
-
--- `copy_run`: all up to the first `&` do
-pub record RunCopied (raw out : List ℕ) (r : ℕ) (out′ : List ℕ) : Type 0 where
-  pub run : RunIs raw r
-  pub list : out′ ≡ sets out 0 (take r raw)
 
 -- `token`: from place i on, one run of plain bytes or one reference or one `&` is read, and what it gives is written from `at` on
 pub record TokenIs (raw : List ℕ) (i : ℕ) (out : List ℕ) (at : ℕ) (r : Place) (out′ : List ℕ) : Type 0 where

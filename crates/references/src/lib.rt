@@ -3,12 +3,11 @@
 ghost use mathlib.Core.Path.{_≡_};
 ghost use mathlib.Core.Bool.{false};
 ghost use Prim.Native.Nat.{_+_, _*_, _<_, _≤_};
-ghost use lib.ListN.{length, take, drop, getD};
-ghost use lib.Seq.{sets};
+ghost use lib.ListN.{length, getD};
 ghost use Rattle.model.specs.Ascii.{byteOf};
 ghost use Rattle.model.specs.References.{formLimit, heldMost, isChar, legal};
 ghost use Rattle.references.specs.Reader.{codeLimit, Compared, DigitIs, GrownIs, baseOf, readAs, numberReading, NamePlace, NumberPlace, ReadIs};
-ghost use Rattle.references.specs.Decoder.{PutFine, Put, Looked, Copied, RunCopied, TokenIs, Decoded, DecodeIs};
+ghost use Rattle.references.specs.Decoder.{PutFine, Put, TokenIs, Decoded, DecodeIs};
 ghost use Rattle.references.specs.Crosses.{HeldFine, JoinIs, CrossIs};
 
 // "at most 10 bytes from `&` to `;`"
@@ -280,84 +279,6 @@ pub fn put_utf8(out: &mut [u8], code: u32) -> usize
     4
 }
 
-// Whether one of the 32 bytes from i on is a `&`. No early exit, so that it compiles to vector
-// instructions.
-fn any_amp(s: &[u8], i: usize) -> bool
-    requires { ⌜ i + 32 ≤ length (now s) ⌝ }
-    ensures { λ r. ⌜ Looked (now (s .entry)) i 32 r ⌝ }
-{
-    let mut z = false;
-    let mut j = 0;
-    while j < 32 {
-        z = z | (s[i + j] == b'&');
-        j += 1;
-    }
-    z
-}
-
-// The 32 bytes from i on.
-fn block_at(s: &[u8], i: usize) -> [u8; 32]
-    requires { ⌜ i + 32 ≤ length (now s) ⌝ }
-    ensures { λ r. ⌜ r ≡ take 32 (drop i (now (s .entry))) ⌝ }
-{
-    let mut block = [0u8; 32];
-    let mut j = 0;
-    while j < 32 {
-        block[j] = s[i + j];
-        j += 1;
-    }
-    block
-}
-
-// Copies the 32 bytes from i on to the same place of `out`. All are read before the first is written,
-// so that the compiler need not ask whether the two slices overlap.
-fn copy_block(raw: &[u8], i: usize, out: &mut [u8])
-    requires { ⌜ i + 32 ≤ length (now raw) ⌝ }
-    requires { ⌜ i + 32 ≤ length (now out) ⌝ }
-    ensures { λ r. ⌜ now (out .exit) ≡ sets (now (out .entry)) i (take 32 (drop i (now (raw .entry)))) ⌝ }
-{
-    let block = block_at(raw, i);
-    let mut j = 0;
-    while j < 32 {
-        out[i + j] = block[j];
-        j += 1;
-    }
-}
-
-// Copies blocks of 32 bytes to the front of `out`, as far as they have no `&`, and returns how many
-// bytes these are. Each block is looked at and copied in the same turn.
-fn copy_blocks(raw: &[u8], out: &mut [u8]) -> usize
-    requires { ⌜ length (now raw) ≤ length (now out) ⌝ }
-    ensures { λ r. ⌜ Copied (now (raw .entry)) (now (out .entry)) r (now (out .exit)) ⌝ }
-{
-    let mut i = 0;
-    while 32 <= raw.len() - i {
-        if any_amp(raw, i) {
-            return i;
-        }
-        copy_block(raw, i, out);
-        i += 32;
-    }
-    i
-}
-
-// Copies the bytes before the first `&`, or all of them, to the front of `out`, and returns how many.
-pub fn copy_run(raw: &[u8], out: &mut [u8]) -> usize
-    requires { ⌜ length (now raw) ≤ length (now out) ⌝ }
-    ensures { λ r. ⌜ RunCopied (now (raw .entry)) (now (out .entry)) r (now (out .exit)) ⌝ }
-{
-    let mut i = copy_blocks(raw, out);
-    while i < raw.len() {
-        let c = raw[i];
-        if c == b'&' {
-            return i;
-        }
-        out[i] = c;
-        i += 1;
-    }
-    i
-}
-
 // How far the raw bytes are read, and the buffer written.
 pub struct Place {
     pub read: usize,
@@ -406,7 +327,7 @@ fn token(raw: &[u8], i: usize, out: &mut [u8], at: usize) -> Place
     if raw[i] == b'&' {
         return amp_token(raw, i, out, at);
     }
-    let n = copy_run(&raw[i..], &mut out[at..]);
+    let n = runs::copy_run(&raw[i..], &mut out[at..]);
     Place {
         read: i + n,
         written: at + n,

@@ -1,12 +1,13 @@
--- `references::block_at` meets its contract. Its laws are in this crate's `proofs/`; `search LAW` finds a law's premises in `c`. Assumes nothing.
-use Rattle.references.proofs.Runs.{Filling, fill-begun, fill-on, filled}
+-- `runs::block_at` meets its contract. Its laws are in this crate's `proofs/`; `search LAW` finds a law's premises in `c`. Assumes nothing.
+use Rattle.runs.proofs.Blocks.{Filling, fill-begun, slice-on, slice-over}
+use lib.ListN.{drop}
 use Prim.Native.Nat.{_-_}
 use borrow.Author.Needs.{needs}
-use Rattle.references.proofs.block_at.Statement.{statement}
-use Rattle.references.proofs.block_at.Tie as tie
+use Rattle.runs.proofs.block_at.Statement.{statement}
+use Rattle.runs.proofs.block_at.Tie as tie
 
 abbrev Inv-loop : tie.InvT-loop
-Inv-loop s i block₀ j₀ block j = Filling s i block j
+Inv-loop s i block₀ j₀ block j = Filling (drop i s) block j
 
 abbrev μ-loop : tie.MeasureT-loop
 μ-loop s i block₀ j₀ block j = 32 - j
@@ -30,10 +31,10 @@ loop-less : tie.Need-loop-less Inv-loop μ-loop
 loop-less c = search needs
 
 loop-again : tie.Need-loop-again Inv-loop μ-loop
-loop-again c = search fill-on
+loop-again c = search slice-on
 
 returns : tie.Need-returns Inv-loop μ-loop
-returns c = search filled
+returns c = search slice-over
 
 pub block-at-spec : {M : Type 1} → statement M
 block-at-spec =

@@ -1,21 +1,18 @@
--- `references::copy_block` meets its contract. Its laws are in this crate's `proofs/`; `search LAW` finds a law's premises in `c`. Assumes nothing.
-use Rattle.references.proofs.Runs.{Copying, copy-begun, copy-on, copy-over}
+-- `runs::put_block` meets its contract. Its laws are in this crate's `proofs/`; `search LAW` finds a law's premises in `c`. Assumes nothing.
 use Prim.Native.Nat.{_-_}
+use Rattle.runs.proofs.Blocks.{Putting, put-begun, put-on, put-over}
 use borrow.Author.Needs.{needs}
-use Rattle.references.proofs.copy_block.Statement.{statement}
-use Rattle.references.proofs.copy_block.Tie as tie
+use Rattle.runs.proofs.put_block.Statement.{statement}
+use Rattle.runs.proofs.put_block.Tie as tie
 
 abbrev Inv-loop : tie.InvT-loop
-Inv-loop raw i out₀ block j₀ out j = Copying block i out₀ out j
+Inv-loop i out₀ block j₀ out j = Putting block i out₀ out j
 
 abbrev μ-loop : tie.MeasureT-loop
-μ-loop raw i out₀ block j₀ out j = 32 - j
-
-block-at-requires : tie.Need-block-at-requires Inv-loop μ-loop
-block-at-requires c κs = search needs
+μ-loop i out₀ block j₀ out j = 32 - j
 
 loop-holds : tie.Need-loop-holds Inv-loop μ-loop
-loop-holds c = search copy-begun
+loop-holds c = search put-begun
 
 array-read-out : tie.Need-array-read-out Inv-loop μ-loop
 array-read-out c = search needs
@@ -33,21 +30,20 @@ loop-less : tie.Need-loop-less Inv-loop μ-loop
 loop-less c = search needs
 
 loop-again : tie.Need-loop-again Inv-loop μ-loop
-loop-again c = search copy-on
+loop-again c = search put-on
 
 same-length : tie.Need-same-length Inv-loop μ-loop
 same-length c = search needs
 
 returns : tie.Need-returns Inv-loop μ-loop
-returns c = search copy-over
+returns c = search put-over
 
-pub copy-block-spec : {M : Type 1} → statement M
-copy-block-spec =
+pub put-block-spec : {M : Type 1} → statement M
+put-block-spec =
     tie.close
     (tie.spec
     Inv-loop
     μ-loop
-    block-at-requires
     loop-holds
     array-read-out
     add-out

@@ -1,19 +1,19 @@
--- `references::copy_blocks` meets its contract. Its laws are in this crate's `proofs/`; `search LAW` finds a law's premises in `c`. Assumes nothing.
-use Rattle.references.proofs.Runs.{CopyingRun, run-begun, copied-block, blocks-copied}
+-- `runs::copy_blocks` meets its contract. Its laws are in this crate's `proofs/`; `search LAW` finds a law's premises in `c`. Assumes nothing.
+use Rattle.runs.proofs.RunLaws.{Copying, blocks-begun, copy-block, blocks-copied}
 use lib.ListN.{length}
 use Prim.Native.Nat.{_-_}
 use borrow.Author.Needs.{needs}
-use Rattle.references.proofs.copy_blocks.Statement.{statement}
-use Rattle.references.proofs.copy_blocks.Tie as tie
+use Rattle.runs.proofs.copy_blocks.Statement.{statement}
+use Rattle.runs.proofs.copy_blocks.Tie as tie
 
 abbrev Inv-loop : tie.InvT-loop
-Inv-loop raw out₀ i₀ out i = CopyingRun raw out₀ out i
+Inv-loop raw out₀ i₀ out i = Copying raw 0 out₀ out i
 
 abbrev μ-loop : tie.MeasureT-loop
 μ-loop raw out₀ i₀ out i = length raw - i
 
 loop-holds : tie.Need-loop-holds Inv-loop μ-loop
-loop-holds c = search run-begun
+loop-holds c = search blocks-begun
 
 sub-loop : tie.Need-sub-loop Inv-loop μ-loop
 sub-loop c = search needs
@@ -37,7 +37,7 @@ loop-less : tie.Need-loop-less Inv-loop μ-loop
 loop-less c = search needs
 
 loop-again : tie.Need-loop-again Inv-loop μ-loop
-loop-again c = search copied-block
+loop-again c = search copy-block
 
 same-length-2 : tie.Need-same-length-2 Inv-loop μ-loop
 same-length-2 c = search needs

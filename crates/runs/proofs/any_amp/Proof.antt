@@ -1,18 +1,19 @@
--- `references::any_amp` meets its contract. Its laws are in this crate's `proofs/`; `search LAW` finds a law's premises in `c`. Assumes nothing.
-use Rattle.references.proofs.Runs.{Looking, look-begun, look-on, look-over}
+-- `runs::any_amp` meets its contract. Its laws are in this crate's `proofs/`; `search LAW` finds a law's premises in `c`. Assumes nothing.
+use Rattle.looks.specs.Looks.{same}
+use Rattle.looks.proofs.LookLaws.{Looking, look-begun, same-on, look-over}
 use Prim.Native.Nat.{_-_}
 use borrow.Author.Needs.{needs}
-use Rattle.references.proofs.any_amp.Statement.{statement}
-use Rattle.references.proofs.any_amp.Tie as tie
+use Rattle.runs.proofs.any_amp.Statement.{statement}
+use Rattle.runs.proofs.any_amp.Tie as tie
 
 abbrev Inv-loop : tie.InvT-loop
-Inv-loop s i z₀ j₀ z j = Looking s i 32 z j
+Inv-loop s i z₀ j₀ z j = Looking (same s 38) i 32 z j
 
 abbrev μ-loop : tie.MeasureT-loop
 μ-loop s i z₀ j₀ z j = 32 - j
 
 loop-holds : tie.Need-loop-holds Inv-loop μ-loop
-loop-holds c = search look-begun
+loop-holds c = look-begun _ _ _
 
 add-z : tie.Need-add-z Inv-loop μ-loop
 add-z c = search needs
@@ -27,7 +28,7 @@ loop-less : tie.Need-loop-less Inv-loop μ-loop
 loop-less c = search needs
 
 loop-again : tie.Need-loop-again Inv-loop μ-loop
-loop-again c = search look-on
+loop-again c = search same-on
 
 returns : tie.Need-returns Inv-loop μ-loop
 returns c = search look-over
