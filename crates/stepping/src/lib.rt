@@ -438,8 +438,17 @@ fn pass(table: &[u64], m: Masks, p: Plan, d: u64, text: &[u8], i: usize) -> usiz
     looks::find_leaving(table, p.next, text, i)
 }
 
-// A pass of fewer bytes than this does not pay.
+// A pass of fewer bytes than this does not pay; one to a single byte, whose look is cheap, does sooner.
 const PASSES_PAY: usize = 16;
+
+const BYTES_PAY: usize = 4;
+
+fn pays_from(kind: u64) -> usize {
+    if kind == plans::BY_BYTE {
+        return BYTES_PAY;
+    }
+    PASSES_PAY
+}
 
 // Where a walk from j on may stop at the earliest: it goes on for some bytes where the last pass,
 // from i to j, was short, so that a text on which passing does not pay is stepped through for the
@@ -451,7 +460,7 @@ fn stop_at(kind: u64, i: usize, j: usize, end: usize) -> usize
     if kind == plans::NO_SKIP {
         return end;
     }
-    if j - i >= PASSES_PAY {
+    if j - i >= pays_from(kind) {
         return j;
     }
     if end - j < PASSES_PAY {
