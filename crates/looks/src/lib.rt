@@ -1,7 +1,7 @@
 // Looking through a text for the next place that a test picks out. A look tries a fixed number of
 // places with no branch between them, so that the compiler makes it vector code: whether the test
 // picks out one of them (any), or the first that it picks out (first). A skim goes on by looks; what
-// is left is found byte by byte.
+// is left is found byte by byte. Each test has its own functions, as a function takes no test.
 ghost use mathlib.Core.Path.{_≡_};
 ghost use Prim.Native.Nat.{_+_, _<_, _≤_};
 ghost use lib.ListN.{length};

@@ -30,10 +30,8 @@ pub struct Plan {
     pub b: usize,
 }
 
-// From how many bytes on a plan, and a pair, pay for their making (60 and 200 ns).
+// From how many bytes on a plan pays for its making (some 75 ns).
 const PLANS_PAY: usize = 256;
-
-const PAIRS_PAY: usize = 1024;
 
 // The plan for a text of `len` bytes.
 pub fn plan_of(table: &[u64], repeats: u64, optional: u64, top: u64, len: usize) -> Plan
@@ -64,9 +62,6 @@ pub fn plan_of(table: &[u64], repeats: u64, optional: u64, top: u64, len: usize)
             a: 0,
             b: 0,
         };
-    }
-    if len < PAIRS_PAY {
-        return plan_skip(table, repeats, optional, top, home, next);
     }
     plan_pair(table, repeats, optional, top, home, next)
 }

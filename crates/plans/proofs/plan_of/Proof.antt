@@ -16,17 +16,11 @@ reports-requires c κs = search needs
 returns-2 : tie.Need-returns-2
 returns-2 c = search plan-none
 
-plan-skip-requires : tie.Need-plan-skip-requires
-plan-skip-requires c κs = search (home-is, needs)
-
-returns-3 : tie.Need-returns-3
-returns-3 c = search needs
-
 plan-pair-requires : tie.Need-plan-pair-requires
 plan-pair-requires c κs = search (home-is, needs)
 
-returns-4 : tie.Need-returns-4
-returns-4 c = search needs
+returns-3 : tie.Need-returns-3
+returns-3 c = search needs
 
 pub plan-of-spec : {M : Type 1} → statement M
 plan-of-spec =
@@ -36,7 +30,5 @@ plan-of-spec =
     returns
     reports-requires
     returns-2
-    plan-skip-requires
-    returns-3
     plan-pair-requires
-    returns-4)
+    returns-3)
