@@ -1,7 +1,7 @@
 -- The step where it may be done by less: nothing to flood, a byte that changes nothing, a state as a step leaves it. Assumes nothing.
 use mathlib.Core.Path.{_≡_, sym, ap, subst, _∙_}
 use mathlib.Core.Bool.{Bool, true, false, _||_}
-use Prim.Native.Nat.{ℕ, _-_, _*_, _%_, _^_, _<_}
+use Prim.Native.Nat.{ℕ, _+_, _-_, _*_, _%_, _^_, _<_}
 use native.Mathlib.Nat.{lt-of-le-of-lt}
 use native.Mathlib.Omega.{arith}
 use lib.Bits.{bitAnd, bitOr, bitXor, and-le-l, and-le-r, or-lt, and-zero-r}
@@ -9,7 +9,7 @@ use lib.Dec.{T, eqb}
 use borrow.Author.Tests.{eqb-true}
 use Rattle.words.specs.Bit.{isSet, bit}
 use Rattle.words.specs.ForwardStep.{wrapSub, move, flood, advance, blockStarts, blockEnds, opening}
-use Rattle.words.proofs.Digits.{or-bit}
+use Rattle.words.proofs.Digits.{or-bit, wrapped}
 use Rattle.words.proofs.Still.{flood-none, flood-lt, move-lt, move-odd, move-none, bit-odd, odd-bit}
 use Rattle.words.proofs.Settled.{flood-again, flood-home, flood-quiet, home-in, home-lt, has-beside}
 use Rattle.stepping.specs.declared.Masks.{Masks}
@@ -111,20 +111,20 @@ module _ (m : Masks) (q : Blocks) (of : BlocksOf (m .optional) q) {d : ℕ} (s :
     pub stays-where : Stays m d b (eqb x d)
     stays-where = record { says = λ t. sym (sym (s .flooded) ∙ ap washed (sym (eqb-true x d t)) ∙ by-flood) }
 
-    pub step-flood : {r : ℕ} → r ≡ flood 64 x (m .optional) (q .first) (q .last) → StepsTo m d b r
-    step-flood {r} e = settles (e ∙ rw (of .first, of .last) by-flood)
+    pub step-flood : {r : ℕ} → r ≡ flood 64 x (m .optional) (blockStarts 64 (m .optional)) (blockEnds 64 (m .optional)) → StepsTo m d b r
+    step-flood {r} e = settles (e ∙ by-flood)
 
 -- ---- `is_settled`
 
 pub settled : (m : Masks) (q : Blocks) (d f : ℕ) → BlocksOf (m .optional) q → m .optional < 2 ^ 64 → d < 2 ^ 64 → m .optional % 2 ≡ 0 → d % 2 ≡ 1
-    → f ≡ flood 64 d (m .optional) (q .first) (q .last) → {r : Bool} → r ≡ eqb f d → SettledIs m d r
+    → f ≡ flood 64 d (m .optional) (blockStarts 64 (m .optional)) (blockEnds 64 (m .optional)) → {r : Bool} → r ≡ eqb f d → SettledIs m d r
 settled m q d f of word small even odd e {r} er = record {
   says = λ t. record {
     even = even;
     word = word;
     small = small;
     odd = odd;
-    flooded = rw (← of .first, ← of .last) (sym e ∙ eqb-true f d (sym er ∙ t));
+    flooded = sym e ∙ eqb-true f d (sym er ∙ t);
   };
 }
 
@@ -155,6 +155,28 @@ settled-by s t = s .says t
 
 -- ---- `blocks_of`
 
-pub blocks-are : {optional home first last : ℕ} {stays : Bool} → home ≡ opening 64 optional → first ≡ blockStarts 64 optional → last ≡ blockEnds 64 optional
-    → BlocksOf optional (record { home = home; first = first; last = last; touch = bitAnd (bitOr optional first) ((2 ^ 64 - 1) - home); stays = stays })
-blocks-are {optional} eh ef el = record { home = eh; first = ef; last = el; touch = rw (eh, ef) }
+pub blocks-are : {optional home first last less : ℕ} {stays : Bool} → home ≡ opening 64 optional → first ≡ blockStarts 64 optional → last ≡ blockEnds 64 optional → first < 2 ^ 64 → less < 2 ^ 64
+    → (less + 1) % 2 ^ 64 ≡ first
+    → BlocksOf optional (record { home = home; less = less; last = last; touch = bitAnd (bitOr optional first) ((2 ^ 64 - 1) - home); stays = stays })
+blocks-are {optional} {home} {first} {last} {less} eh ef el hf hl e = record {
+  home = eh;
+  less = wrapped first 1 less (omega arith) hl e ∙ ap (λ (i : ℕ). wrapSub 64 i 1) ef;
+  small = rw ef at hf;
+  last = el;
+  touch = rw (eh, ef);
+}
+
+-- ---- `flooded`
+
+-- !(g - i) is (i - 1) - g
+turned : (g i l t : ℕ) → g < 2 ^ 64 → i < 2 ^ 64 → t < 2 ^ 64 → l ≡ wrapSub 64 i 1 → (t + g) % 2 ^ 64 ≡ l → t ≡ (2 ^ 64 - 1) - wrapSub 64 g i
+turned g i l t hg hi ht el e = omega arith
+
+pub flood-turned : (optional : ℕ) (q : Blocks) → BlocksOf optional q → (d t : ℕ) → d < 2 ^ 64 → q .last < 2 ^ 64 → t < 2 ^ 64 → (t + bitOr d (q .last)) % 2 ^ 64 ≡ q .less
+    → bitOr d (bitAnd optional (bitXor t (bitOr d (q .last)))) ≡ flood 64 d optional (blockStarts 64 optional) (blockEnds 64 optional)
+unfolding flood
+flood-turned optional q of d t hd hl ht e =
+    let g = bitOr d (q .last) in
+    let hg : g < 2 ^ 64 = or-lt 64 d (q .last) hd hl in
+    let k : t ≡ (2 ^ 64 - 1) - wrapSub 64 g (blockStarts 64 optional) = turned g (blockStarts 64 optional) (q .less) t hg (of .small) ht (of .less) e in
+    ap (λ (n : ℕ). bitOr d (bitAnd optional (bitXor n g))) k ∙ ap (λ (f : ℕ). bitOr d (bitAnd optional (bitXor ((2 ^ 64 - 1) - wrapSub 64 (bitOr d f) (blockStarts 64 optional)) (bitOr d f)))) (of .last)

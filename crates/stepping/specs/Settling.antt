@@ -3,14 +3,15 @@ use mathlib.Core.Path.{_≡_}
 use mathlib.Core.Bool.{Bool, true}
 use Prim.Native.Nat.{ℕ, _-_, _%_, _^_, _<_}
 use lib.Bits.{bitAnd, bitOr}
-use Rattle.words.specs.ForwardStep.{flood, blockStarts, blockEnds, opening}
+use Rattle.words.specs.ForwardStep.{wrapSub, flood, blockStarts, blockEnds, opening}
 use Rattle.stepping.specs.declared.Masks.{Masks}
 use Rattle.stepping.specs.declared.Blocks.{Blocks}
 use Rattle.stepping.specs.Stepping.{stepN}
 
 pub record BlocksOf (optional : ℕ) (q : Blocks) : Type 0 where
   pub home : q .home ≡ opening 64 optional
-  pub first : q .first ≡ blockStarts 64 optional
+  pub less : q .less ≡ wrapSub 64 (blockStarts 64 optional) 1
+  pub small : blockStarts 64 optional < 2 ^ 64
   pub last : q .last ≡ blockEnds 64 optional
   pub touch : q .touch ≡ bitAnd (bitOr optional (blockStarts 64 optional)) ((2 ^ 64 - 1) - opening 64 optional)
 

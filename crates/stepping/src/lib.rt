@@ -48,13 +48,13 @@ pub fn step(d: u64, b: u64, k: u64, m: Masks) -> u64
     words::advance(d, b, s, k, m.optional, i, f)
 }
 
-// What a walk keeps at hand of the optional positions: the opening state, the bit before each block
-// and the last of each, and where a state outside the opening state touches a block or the bit before
-// one; and whether a position both may be missing and repeats, as in `.*`, so that it pays to pass over
+// What a walk keeps at hand of the optional positions: the opening state, one less than the bits before
+// the blocks, the last bit of each block, and where a state outside the opening state touches a block
+// or the bit before one; and whether a position both may be missing and repeats, as in `.*`, so that it pays to pass over
 // bytes at which a state stays. Only speed hangs on the last.
 pub struct Blocks {
     pub home: u64,
-    pub first: u64,
+    pub less: u64,
     pub last: u64,
     pub touch: u64,
     pub stays: bool,
@@ -67,14 +67,25 @@ fn blocks_of(optional: u64, repeats: u64) -> Blocks
     let first = words::block_starts(optional);
     let last = words::block_ends(optional);
     let touch = (optional | first) & !home;
+    let less = std::num::wrapping_sub_u64(first, 1);
     let stays = optional & repeats != 0;
     Blocks {
         home: home,
-        first: first,
+        less: less,
         last: last,
         touch: touch,
         stays: stays,
     }
+}
+
+// The flood of a state: !(g - i) of the formula is (i - 1) - g, one operation less to wait for.
+fn flooded(d: u64, optional: u64, q: Blocks) -> u64
+    requires { ⌜ BlocksOf optional q ⌝ }
+    ensures { λ r. ⌜ r ≡ Step.flood 64 d optional (Step.blockStarts 64 optional) (Step.blockEnds 64 optional) ⌝ }
+{
+    let g = d | q.last;
+    let t = std::num::wrapping_sub_u64(q.less, g);
+    d | (optional & (t ^ g))
 }
 
 // Whether a state is as a step leaves it: odd, and flooded, as the opening state is. One made by hand
@@ -92,7 +103,7 @@ fn is_settled(m: Masks, q: Blocks, d: u64) -> bool
     if d % 2 != 1 {
         return false;
     }
-    let f = words::flood(d, m.optional, q.first, q.last);
+    let f = flooded(d, m.optional, q);
     f == d
 }
 
@@ -127,7 +138,7 @@ fn step_over(d: u64, b: u64, m: Masks, q: Blocks) -> u64
     if x & q.touch == 0 {
         return x;
     }
-    words::flood(x, m.optional, q.first, q.last)
+    flooded(x, m.optional, q)
 }
 
 // Steps from a place on, where no position is optional but leading ones, until the text ends or, at `stop` or past it, the

@@ -224,6 +224,10 @@ sub-out (suc w) x y r c o hx hy hr e =
 pub wrapSub-is : (w x y : ℕ) → y < 2 ^ w → Sub w false x y (wrapSub w x y) ((x + (2 ^ w - y)) / 2 ^ w) 1
 wrapSub-is w x y h = record { is = omega (arith, div-add-mod' (x + (2 ^ w - y)) (2 ^ w)) }
 
+-- it is the number that y added to wraps back to x
+pub wrapped : (x y r : ℕ) → y < 2 ^ 64 → r < 2 ^ 64 → (r + y) % 2 ^ 64 ≡ x → r ≡ wrapSub 64 x y
+wrapped x y r hy hr e = omega arith
+
 pub wrapSub-bit : (w x y j : ℕ) → y < 2 ^ w → j < w → bit (wrapSub w x y) j ≡ minus false (bit x) (bit y) j
 wrapSub-bit w x y j h hj = sub-bit w x y (wrapSub w x y) ((x + (2 ^ w - y)) / 2 ^ w) 1 false (wrapSub-is w x y h) j hj
 

@@ -3,11 +3,6 @@ use Rattle.stepping.proofs.Steps.{blocks-are}
 use borrow.Author.Needs.{needs}
 use Rattle.stepping.proofs.blocks_of.Statement.{statement}
 use Rattle.stepping.proofs.blocks_of.Tie as tie
-use Rattle.stepping.proofs.blocks_of.Reads as reads
-use Rattle.stepping.proofs.blocks_of.Lts as lts
-use Rattle.words.proofs.block_ends.Reads as block-ends-reads
-use Rattle.words.proofs.block_starts.Reads as block-starts-reads
-use Rattle.words.proofs.opening.Reads as opening-reads
 
 opening-requires : tie.Need-opening-requires
 opening-requires c κs = search needs
@@ -18,9 +13,12 @@ block-starts-requires c κs = search needs
 block-ends-requires : tie.Need-block-ends-requires
 block-ends-requires c κs = search needs
 
+wrapping-sub-u64-requires : tie.Need-wrapping-sub-u64-requires
+wrapping-sub-u64-requires c κs = search needs
+
 returns : tie.Need-returns
 returns c = search blocks-are
 
 pub blocks-of-spec : {M : Type 1} → statement M
 blocks-of-spec =
-    tie.close (tie.spec opening-requires block-starts-requires block-ends-requires returns)
+    tie.close (tie.spec opening-requires block-starts-requires block-ends-requires wrapping-sub-u64-requires returns)

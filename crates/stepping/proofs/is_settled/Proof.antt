@@ -3,9 +3,6 @@ use Rattle.stepping.proofs.Steps.{home-settled, settled, unsettled}
 use borrow.Author.Needs.{needs}
 use Rattle.stepping.proofs.is_settled.Statement.{statement}
 use Rattle.stepping.proofs.is_settled.Tie as tie
-use Rattle.stepping.proofs.is_settled.Reads as reads
-use Rattle.stepping.proofs.is_settled.Lts as lts
-use Rattle.words.proofs.flood.Reads as flood-reads
 
 returns : tie.Need-returns
 returns c = search unsettled
@@ -16,11 +13,11 @@ returns-2 c = search home-settled
 returns-3 : tie.Need-returns-3
 returns-3 c = search unsettled
 
-flood-requires : tie.Need-flood-requires
-flood-requires c κs = search needs
+flooded-requires : tie.Need-flooded-requires
+flooded-requires c κs = search needs
 
 returns-4 : tie.Need-returns-4
 returns-4 c = search settled
 
 pub is-settled-spec : {M : Type 1} → statement M
-is-settled-spec = tie.close (tie.spec returns returns-2 returns-3 flood-requires returns-4)
+is-settled-spec = tie.close (tie.spec returns returns-2 returns-3 flooded-requires returns-4)

@@ -10,11 +10,11 @@ move-home-requires c κs = search has-home
 returns : tie.Need-returns
 returns c = search step-still
 
-flood-requires : tie.Need-flood-requires
-flood-requires c κs = search needs
+flooded-requires : tie.Need-flooded-requires
+flooded-requires c κs = search needs
 
 returns-2 : tie.Need-returns-2
 returns-2 c = search step-flood
 
 pub step-over-spec : {M : Type 1} → statement M
-step-over-spec = tie.close (tie.spec move-home-requires returns flood-requires returns-2)
+step-over-spec = tie.close (tie.spec move-home-requires returns flooded-requires returns-2)

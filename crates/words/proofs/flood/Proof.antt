@@ -1,16 +1,13 @@
 -- `words::flood` meets its contract: its operations are those of `flood`, and the library's wrapping difference is `wrapSub`. Assumes nothing.
-use mathlib.Core.Path.{_≡_, ap}
-use Prim.Native.Nat.{ℕ, _+_, _-_, _%_, _^_, _<_}
+use mathlib.Core.Path.{ap}
+use Prim.Native.Nat.{ℕ, _-_, _^_}
 use native.Mathlib.Omega.{arith}
 use borrow.Author.Needs.{needs}
 use lib.Bits.{bitAnd, bitOr, bitXor}
 use Rattle.words.specs.ForwardStep.{wrapSub, flood}
+use Rattle.words.proofs.Digits.{wrapped}
 use Rattle.words.proofs.flood.Statement.{statement}
 use Rattle.words.proofs.flood.Tie as tie
-
--- the number that y added to wraps back to x
-wrapped : (x y r : ℕ) → y < 2 ^ 64 → r < 2 ^ 64 → (r + y) % 2 ^ 64 ≡ x → r ≡ wrapSub 64 x y
-wrapped x y r hy hr e = omega arith
 
 wrapping-sub-u64-requires : tie.Need-wrapping-sub-u64-requires
 wrapping-sub-u64-requires c κs = search needs
