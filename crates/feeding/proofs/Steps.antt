@@ -8,10 +8,11 @@ use lib.ListN.{length, length-append}
 use lib.Seq.{length-sets}
 use borrow.Rule.Slice.PartMut.{putMid, midOf}
 use Rattle.model.proofs.LentLists.{sets-append, sets-from}
-use Rattle.stepping.specs.declared.Masks.{Masks}
+use Rattle.walking.specs.declared.Masks.{Masks}
+use Rattle.walking.specs.Stepping.{stateAfter, endsIn}
+use Rattle.walking.proofs.Turns.{state-append, ends-append}
 use Rattle.stepping.specs.declared.Ran.{Ran}
-use Rattle.stepping.specs.Stepping.{stateAfter, endsIn, Scanned}
-use Rattle.stepping.proofs.Turns.{state-append, ends-append}
+use Rattle.stepping.specs.Running.{Scanned}
 use Rattle.feeding.specs.declared.State.{State}
 use Rattle.feeding.specs.Feeding.{Stepped}
 

@@ -1,5 +1,4 @@
 -- Laws on plain values; each function's own file only cites them.
-pub mod Steps
-pub mod Turns
+pub mod Leaps
 pub mod Pairs
 pub mod Passing

@@ -1,25 +1,33 @@
--- What may be passed over: in the opening state bytes that do not leave it and starts that miss a pair, in any state bytes at which it stays. Assumes nothing.
+-- What may be passed over in the opening state: bytes that do not leave it, and starts that miss a pair. Assumes nothing.
 use mathlib.Core.Path.{_≡_, refl, sym, _∙_}
-use Prim.Native.Nat.{ℕ, _+_, _-_, _≤_, _<_}
+use Prim.Native.Nat.{ℕ, _+_, _-_, _*_, _%_, _^_, _≤_, _<_}
 use native.Mathlib.Omega.{arith}
 use mathlib.Core.List.{List}
-use mathlib.Core.Bool.{Bool, false, not, _&&_}
+use mathlib.Core.Bool.{false, _&&_}
 use lib.ListN.{length, getD}
-use lib.Bits.{bitAnd}
+use lib.Bits.{bitAnd, bitOr}
 use lib.Dec.{eqb, leb}
 use borrow.Author.Tests.{not-false, eqb-true, eqb-false, leb-true}
 use Rattle.model.proofs.Truth.{not-both}
+use Rattle.words.specs.ForwardStep.{move, advance, opening}
+use Rattle.words.proofs.Still.{move-none}
 use Rattle.looks.specs.Looks.{Missed, leaves, between, same, pairAt}
 use Rattle.plans.specs.declared.Plan.{Plan}
 use Rattle.plans.specs.Plans.{Home, Inside, Paired, Planned}
-use Rattle.stepping.specs.declared.Masks.{Masks}
-use Rattle.words.specs.ForwardStep.{topBit}
-use Rattle.stepping.specs.Stepping.{stepOn}
-use Rattle.stepping.specs.Settling.{Stays}
-use Rattle.stepping.specs.Walking.{Passed}
-use Rattle.stepping.proofs.Turns.{pass-one, pass-more, pass-missed}
-use Rattle.stepping.proofs.Steps.{stays}
+use Rattle.walking.specs.declared.Masks.{Masks}
+use Rattle.walking.specs.Stepping.{stepN}
+use Rattle.walking.specs.Walking.{Passed}
+use Rattle.walking.proofs.Turns.{pass-one}
+use Rattle.stepping.proofs.Leaps.{pass-missed}
 use Rattle.stepping.proofs.Pairs.{pair-passes}
+
+-- the opening state stays at a byte whose entry has none of its follow-up
+stays : (m : Masks) (home next b : ℕ) → home ≡ opening 64 (m .optional) → next ≡ bitOr (home * 2 % 2 ^ 64) (bitAnd home (m .repeats))
+    → bitAnd b next ≡ 0 → stepN m 1 home b ≡ home
+unfolding stepN advance opening
+stays m home next b eh en z =
+    let q : move 64 home b (bitAnd b (m .repeats)) 1 ≡ 1 = move-none home b (m .repeats) (rw (← en) z) in
+    rw q (sym eh)
 
 -- bytes that do not leave
 passes : (t : List ℕ) (m : Masks) (home next : ℕ) → Home (m .repeats) (m .optional) (m .top) home next → (text : List ℕ) (i r : ℕ)
@@ -74,13 +82,6 @@ module _ {t : List ℕ} {m : Masks} {p : Plan} {d : ℕ} {text : List ℕ} {i : 
 pub is-paired : (t : List ℕ) (m : Masks) (p : Plan) → Planned t (m .repeats) (m .optional) (m .top) p → p .kind ≡ 4
     → Paired t (m .repeats) (m .optional) (m .top) (p .a) (p .b) (p .lo) (p .hi)
 is-paired t m p pl k = pl .pair k .1
-
--- a byte at which the state stays
-pub stay-on : {t : List ℕ} {m : Masks} {d : ℕ} {text : List ℕ} {i j c : ℕ} {s r : Bool} → Passed t m d text i j → j < length text → c ≡ getD text j 0 → Stays m d (getD t c 0) s
-    → not s ≡ false → r ≡ topBit (m .top) d → r ≡ false → Passed t m d text i (j + 1)
-stay-on {t} {m} {d} {text} {i} {j} {c} {s} {r} p h ec st e er z =
-    let stays : stepOn t m d c ≡ d = st .says (not-false s e) in
-    pass-more p (pass-one t m d text j h (rw ec at stays) (sym er ∙ z))
 
 -- the pair's starts, up to where the text still has its second byte
 pub to-pair : (t : List ℕ) (m : Masks) (a b x y : ℕ) (text : List ℕ) (i r : ℕ) → Paired t (m .repeats) (m .optional) (m .top) a b x y → i ≤ length text

@@ -1,7 +1,7 @@
 -- `stepping::pass` meets its contract. Its laws are in this crate's `proofs/`; `search LAW` finds a law's premises in `c`. Assumes nothing.
 use borrow.Author.Needs.{needs}
+use Rattle.walking.proofs.Turns.{pass-none}
 use Rattle.stepping.proofs.Passing.{by-table, by-one, by-range, by-pair, is-paired}
-use Rattle.stepping.proofs.Turns.{pass-none}
 use Rattle.stepping.proofs.pass.Statement.{statement}
 use Rattle.stepping.proofs.pass.Tie as tie
 

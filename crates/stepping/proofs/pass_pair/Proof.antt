@@ -1,6 +1,6 @@
 -- `stepping::pass_pair` meets its contract. Its laws are in this crate's `proofs/`; `search LAW` finds a law's premises in `c`. Assumes nothing.
 use borrow.Author.Needs.{needs}
-use Rattle.stepping.proofs.Turns.{pass-none}
+use Rattle.walking.proofs.Turns.{pass-none}
 use Rattle.stepping.proofs.Passing.{to-pair}
 use Rattle.stepping.proofs.pass_pair.Statement.{statement}
 use Rattle.stepping.proofs.pass_pair.Tie as tie

@@ -3,8 +3,9 @@ use borrow.Author.Needs.{needs}
 use Prim.Native.Nat.{_-_}
 use native.Mathlib.Omega.{arith}
 use lib.ListN.{length}
-use Rattle.stepping.specs.Walking.{Going}
-use Rattle.stepping.proofs.Turns.{begun, over, over-leap, has-room, turn}
+use Rattle.walking.specs.Walking.{Going}
+use Rattle.walking.proofs.Turns.{begun}
+use Rattle.stepping.proofs.Leaps.{over, over-leap, has-room, turn}
 use Rattle.stepping.proofs.run.Statement.{statement}
 use Rattle.stepping.proofs.run.Tie as tie
 

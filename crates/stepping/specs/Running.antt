@@ -1,0 +1,16 @@
+-- What a run over some decoded bytes gives: the state after them, and the ends among them, by the formula. Assumes nothing.
+use mathlib.Core.Path.{_≡_}
+use mathlib.Core.List.{List}
+use Prim.Native.Nat.{ℕ, _≤_}
+use lib.ListN.{length}
+use lib.Seq.{sets}
+use Rattle.walking.specs.declared.Masks.{Masks}
+use Rattle.walking.specs.Stepping.{stateAfter, endsIn}
+use Rattle.stepping.specs.declared.Ran.{Ran}
+
+-- `run`: its result, and the lent list at exit
+pub record Scanned (t : List ℕ) (m : Masks) (d at : ℕ) (text ends : List ℕ) (r : Ran) (ends′ : List ℕ) : Type 0 where
+  pub state : r .d ≡ stateAfter t m d text
+  pub count : r .count ≡ length (endsIn t m d at text)
+  pub few : r .count ≤ length text
+  pub list : ends′ ≡ sets ends 0 (endsIn t m d at text)

@@ -1,0 +1,229 @@
+-- A run goes on, byte by byte and over what may be passed: what the rest of the text would make of the present place is what the text makes of the
+-- first one. And stepping over two runs of bytes. Assumes nothing.
+use mathlib.Core.Path.{_≡_, refl, sym, ap, _∙_}
+use mathlib.Core.List.{List, [], _∷_, _++_}
+use mathlib.Core.Bool.{Bool, true, false, not}
+use Prim.Native.Nat.{ℕ, suc, _+_, _-_, _≤_, _<_}
+use native.Mathlib.Numerals.{add-one}
+use native.Mathlib.Nat.{add-zero}
+use native.Mathlib.Omega.{arith}
+use lib.ListN.{length, drop, getD, set, length-set}
+use lib.Seq.{sets, drop-cons}
+use borrow.Author.Tests.{not-false}
+use Rattle.model.specs.Occurrence.{consIf}
+use Rattle.words.specs.ForwardStep.{topBit}
+use Rattle.walking.specs.declared.Masks.{Masks}
+use Rattle.walking.specs.declared.Spot.{Spot}
+use Rattle.walking.specs.Stepping.{stepOn, stateAfter, endsIn}
+use Rattle.walking.specs.Walking.{Going, Walked, Passed, Room}
+use Rattle.walking.specs.Settling.{Settled, StepsTo, Stays}
+
+-- one turn of each definition
+module _ (t : List ℕ) (m : Masks) (d at : ℕ) (text : List ℕ) (i : ℕ) (h : i < length text) where
+  pub state-turn : stateAfter t m d (drop i text) ≡ stateAfter t m (stepOn t m d (getD text i 0)) (drop (i + 1) text)
+  unfolding stateAfter
+  state-turn = rw (add-one, drop-cons text i 0)
+
+  pub ends-turn : endsIn t m d at (drop i text)
+      ≡ consIf (topBit (m .top) (stepOn t m d (getD text i 0))) (at + 1) (endsIn t m (stepOn t m d (getD text i 0)) (at + 1) (drop (i + 1) text))
+  unfolding endsIn
+  ends-turn = rw (add-one i, drop-cons text i 0)
+
+-- ---- going on
+
+pub begun : (t : List ℕ) (m : Masks) (text ends₀ : List ℕ) (d₀ at₀ n₀ i₀ : ℕ) → i₀ ≤ length text → Going t m text ends₀ d₀ at₀ n₀ i₀ ends₀ d₀ at₀ n₀ i₀
+begun t m text ends₀ d₀ at₀ n₀ i₀ h =
+    record { fore = omega arith; within = h; place = refl; few = omega arith; long = refl; state = refl; count = refl; list = refl }
+
+module _ {t : List ℕ} {m : Masks} {text ends₀ ends : List ℕ} {d₀ at₀ n₀ i₀ d at n i : ℕ}
+    (g : Going t m text ends₀ d₀ at₀ n₀ i₀ ends d at n i) where
+  -- b is the byte at i, and d′ the state after it
+  module _ {b d′ : ℕ} (h : i < length text) (eb : b ≡ getD text i 0) (es : d′ ≡ stepOn t m d b) where
+    e : d′ ≡ stepOn t m d (getD text i 0)
+    e = rw (← eb) es
+
+    -- no end there
+    pub passed : {r : Bool} → r ≡ topBit (m .top) d′ → r ≡ false → Going t m text ends₀ d₀ at₀ n₀ i₀ ends d′ (at + 1) n (i + 1)
+    passed er z =
+        let q : endsIn t m d at (drop i text) ≡ endsIn t m d′ (at + 1) (drop (i + 1) text) =
+        rw (ends-turn t m d at text i h, ← e, ← er, z) in
+        record {
+          fore = omega arith;
+          within = omega arith;
+          place = omega arith;
+          few = omega arith;
+          long = g .long;
+          state = rw (e, ← state-turn t m d at text i h) (g .state);
+          count = rw (← q) (g .count);
+          list = rw (← q) (g .list);
+        }
+
+    -- an end there, which is stored
+    pub ended : {r : Bool} → r ≡ topBit (m .top) d′ → r ≡ true → Going t m text ends₀ d₀ at₀ n₀ i₀ (set ends n (at + 1)) d′ (at + 1) (n + 1) (i + 1)
+    ended er z =
+        let q : endsIn t m d at (drop i text) ≡ (at + 1) ∷ endsIn t m d′ (at + 1) (drop (i + 1) text) =
+        rw (ends-turn t m d at text i h, ← e, ← er, z) in
+        record {
+          fore = omega arith;
+          within = omega arith;
+          place = omega arith;
+          few = omega arith;
+          long = length-set ends n (at + 1) ∙ g .long;
+          state = rw (e, ← state-turn t m d at text i h) (g .state);
+          count = omega (arith, ap length q, g .count);
+          list = rw (add-one n) (sym (ap (sets ends n) q) ∙ g .list);
+        }
+
+    -- the walk ends after that byte, and no end is there
+    pub stopped : {r : Bool} → r ≡ topBit (m .top) d′ → r ≡ false → Walked t m text ends₀ d₀ at₀ n₀ i₀ (record { d = d′; at = at + 1; n = n; i = i + 1 }) ends
+    stopped er z = record { moves = omega arith; going = passed er z }
+
+  -- or at the end of the text
+  pub walked : i₀ < length text → length text ≤ i → Walked t m text ends₀ d₀ at₀ n₀ i₀ (record { d = d; at = at; n = n; i = i }) ends
+  walked h s = record { moves = omega arith; going = g }
+
+  -- over what may be passed
+  pub leapt : {at′ j : ℕ} → Passed t m d text i j → at′ + i ≡ at + j → Going t m text ends₀ d₀ at₀ n₀ i₀ ends d at′ n j
+  leapt {at′} {j} p e =
+      let q : endsIn t m d at′ (drop j text) ≡ endsIn t m d at (drop i text) = p .ends at at′ e in
+      record {
+        fore = omega arith;
+        within = p .within;
+        place = omega arith;
+        few = omega arith;
+        long = g .long;
+        state = p .state ∙ g .state;
+        count = rw q (g .count);
+        list = rw q (g .list);
+      }
+
+  -- and on
+  pub joined : {ends′ : List ℕ} {d′ at′ n′ i′ : ℕ} → Going t m text ends d at n i ends′ d′ at′ n′ i′ → Going t m text ends₀ d₀ at₀ n₀ i₀ ends′ d′ at′ n′ i′
+  joined k = record {
+    fore = omega arith;
+    within = k .within;
+    place = omega arith;
+    few = omega arith;
+    long = k .long ∙ g .long;
+    state = k .state ∙ g .state;
+    count = k .count ∙ g .count;
+    list = k .list ∙ g .list;
+  }
+
+-- ---- a walk, whose states are settled
+
+pub record Strolling (t : List ℕ) (m : Masks) (text ends₀ : List ℕ) (d₀ at₀ n₀ i₀ : ℕ) (ends : List ℕ) (d at n i : ℕ) : Type 0 where
+  pub going : Going t m text ends₀ d₀ at₀ n₀ i₀ ends d at n i
+  pub settled : Settled m d
+
+pub set-out : (t : List ℕ) (m : Masks) (text ends₀ : List ℕ) (d₀ at₀ n₀ i₀ : ℕ) → i₀ < length text → Settled m d₀
+    → Strolling t m text ends₀ d₀ at₀ n₀ i₀ ends₀ d₀ at₀ n₀ i₀
+set-out t m text ends₀ d₀ at₀ n₀ i₀ h o = record { going = begun t m text ends₀ d₀ at₀ n₀ i₀ (omega arith); settled = o }
+
+module _ {t : List ℕ} {m : Masks} {text ends₀ ends : List ℕ} {d₀ at₀ n₀ i₀ d at n i : ℕ}
+    (g : Strolling t m text ends₀ d₀ at₀ n₀ i₀ ends d at n i) where
+  module _ {b d′ : ℕ} (h : i < length text) (eb : b ≡ getD text i 0) (es : StepsTo m d (getD t b 0) d′) where
+    pub stroll-passed : {r : Bool} → r ≡ topBit (m .top) d′ → r ≡ false → Strolling t m text ends₀ d₀ at₀ n₀ i₀ ends d′ (at + 1) n (i + 1)
+    stroll-passed er z = record { going = passed (g .going) h eb (es .is) er z; settled = es .settles }
+
+    pub stroll-ended : {r : Bool} → r ≡ topBit (m .top) d′ → r ≡ true
+        → Strolling t m text ends₀ d₀ at₀ n₀ i₀ (set ends n (at + 1)) d′ (at + 1) (n + 1) (i + 1)
+    stroll-ended er z = record { going = ended (g .going) h eb (es .is) er z; settled = es .settles }
+
+    pub stroll-stopped : {r : Bool} → r ≡ topBit (m .top) d′ → r ≡ false
+        → Walked t m text ends₀ d₀ at₀ n₀ i₀ (record { d = d′; at = at + 1; n = n; i = i + 1 }) ends
+    stroll-stopped er z = stopped (g .going) h eb (es .is) er z
+
+  pub stroll-over : i₀ < length text → length text ≤ i → Walked t m text ends₀ d₀ at₀ n₀ i₀ (record { d = d; at = at; n = n; i = i }) ends
+  stroll-over h s = walked (g .going) h s
+
+-- the same after bytes at which the state stays
+module _ {t : List ℕ} {m : Masks} {text ends₀ ends : List ℕ} {d₀ at₀ n₀ i₀ d at n i j : ℕ}
+    (g : Strolling t m text ends₀ d₀ at₀ n₀ i₀ ends d at n i) (p : Passed t m d text i j) where
+  on : Strolling t m text ends₀ d₀ at₀ n₀ i₀ ends d (at + (j - i)) n j
+  on = record { going = leapt (g .going) p (omega (arith, p .fore)); settled = g .settled }
+
+  pub stay-over : i₀ < length text → j ≡ length text → Walked t m text ends₀ d₀ at₀ n₀ i₀ (record { d = d; at = at + (j - i); n = n; i = j }) ends
+  stay-over h e = stroll-over on h (omega arith)
+
+  module _ {b d′ : ℕ} (h : j ≡ length text → ⊥) (eb : b ≡ getD text j 0) (es : StepsTo m d (getD t b 0) d′) where
+    left : j < length text
+    left = omega (arith, p .within)
+
+    pub stay-passed : {r : Bool} → r ≡ topBit (m .top) d′ → r ≡ false → Strolling t m text ends₀ d₀ at₀ n₀ i₀ ends d′ (at + (j - i) + 1) n (j + 1)
+    stay-passed er z = stroll-passed on left eb es er z
+
+    pub stay-ended : {r : Bool} → r ≡ topBit (m .top) d′ → r ≡ true
+        → Strolling t m text ends₀ d₀ at₀ n₀ i₀ (set ends n (at + (j - i) + 1)) d′ (at + (j - i) + 1) (n + 1) (j + 1)
+    stay-ended er z = stroll-ended on left eb es er z
+
+    pub stay-stopped : {r : Bool} → r ≡ topBit (m .top) d′ → r ≡ false
+        → Walked t m text ends₀ d₀ at₀ n₀ i₀ (record { d = d′; at = at + (j - i) + 1; n = n; i = j + 1 }) ends
+    stay-stopped er z = stroll-stopped on left eb es er z
+
+-- one byte alone
+module _ {t : List ℕ} {m : Masks} {text ends : List ℕ} {s : Spot} {b d′ : ℕ} (room : Room s text ends) (eb : b ≡ getD text (s .i) 0)
+    (es : d′ ≡ stepOn t m (s .d) b) where
+  start : Going t m text ends (s .d) (s .at) (s .n) (s .i) ends (s .d) (s .at) (s .n) (s .i)
+  start = begun t m text ends (s .d) (s .at) (s .n) (s .i) (omega arith)
+
+  pub one-passed : {r : Bool} → r ≡ topBit (m .top) d′ → r ≡ false
+      → Walked t m text ends (s .d) (s .at) (s .n) (s .i) (record { d = d′; at = s .at + 1; n = s .n; i = s .i + 1 }) ends
+  one-passed er z = stopped start (room .left) eb es er z
+
+  pub one-ended : {r : Bool} → r ≡ topBit (m .top) d′ → r ≡ true
+      → Walked t m text ends (s .d) (s .at) (s .n) (s .i) (record { d = d′; at = s .at + 1; n = s .n + 1; i = s .i + 1 }) (set ends (s .n) (s .at + 1))
+  one-ended er z = record { moves = omega arith; going = ended start (room .left) eb es er z }
+
+-- ---- passing over
+
+pub pass-none : (t : List ℕ) (m : Masks) (d : ℕ) (text : List ℕ) (i : ℕ) → i ≤ length text → Passed t m d text i i
+pass-none t m d text i h =
+    record { fore = omega arith; within = h; state = refl; ends = λ at at′ e. let q : at′ ≡ at = omega arith in rw q }
+
+pub pass-more : {t : List ℕ} {m : Masks} {d : ℕ} {text : List ℕ} {i j k : ℕ} → Passed t m d text i j → Passed t m d text j k → Passed t m d text i k
+pass-more {t} {m} {d} {text} {i} {j} {k} p q = record {
+  fore = omega arith;
+  within = q .within;
+  state = q .state ∙ p .state;
+  ends = λ at at′ e. let f : at + (j - i) + i ≡ at + j = omega arith in
+      let f′ : at′ + j ≡ at + (j - i) + k = omega arith in
+      q .ends (at + (j - i)) at′ f′ ∙ p .ends at (at + (j - i)) f;
+}
+
+-- a byte that changes nothing, where nothing is reported
+pub pass-one : (t : List ℕ) (m : Masks) (d : ℕ) (text : List ℕ) (i : ℕ) → i < length text → stepOn t m d (getD text i 0) ≡ d → topBit (m .top) d ≡ false
+    → Passed t m d text i (i + 1)
+pass-one t m d text i h e z = record {
+  fore = omega arith;
+  within = omega arith;
+  state = sym (rw e at (state-turn t m d 0 text i h));
+  ends = λ at at′ p. let q : at′ ≡ at + 1 = omega arith in
+      rw q (sym (rw (e, z) at (ends-turn t m d at text i h)));
+}
+
+-- a byte at which the state stays
+pub stay-on : {t : List ℕ} {m : Masks} {d : ℕ} {text : List ℕ} {i j c : ℕ} {s r : Bool} → Passed t m d text i j → j < length text → c ≡ getD text j 0 → Stays m d (getD t c 0) s
+    → not s ≡ false → r ≡ topBit (m .top) d → r ≡ false → Passed t m d text i (j + 1)
+stay-on {t} {m} {d} {text} {i} {j} {c} {s} {r} p h ec st e er z =
+    let stays : stepOn t m d c ≡ d = st .says (not-false s e) in
+    pass-more p (pass-one t m d text j h (rw ec at stays) (sym er ∙ z))
+
+-- ---- stepping over two runs of bytes is stepping over the first and then over the second
+
+pub state-append : (t : List ℕ) (m : Masks) (d : ℕ) (xs ys : List ℕ) → stateAfter t m d (xs ++ ys) ≡ stateAfter t m (stateAfter t m d xs) ys
+unfolding stateAfter
+state-append t m d [] ys = refl
+state-append t m d (x ∷ xs) ys = state-append t m (stepOn t m d x) xs ys
+
+cons-append : (b : Bool) (e : ℕ) (es fs : List ℕ) → consIf b e (es ++ fs) ≡ consIf b e es ++ fs
+cons-append true e es fs = refl
+cons-append false e es fs = refl
+
+pub ends-append : (t : List ℕ) (m : Masks) (d at : ℕ) (xs ys : List ℕ)
+    → endsIn t m d at (xs ++ ys) ≡ endsIn t m d at xs ++ endsIn t m (stateAfter t m d xs) (at + length xs) ys
+unfolding stateAfter endsIn
+ends-append t m d at [] ys = rw add-zero
+ends-append t m d at (x ∷ xs) ys =
+    let k : at + 1 + length xs ≡ at + suc (length xs) = omega arith in
+    rw (ends-append t m (stepOn t m d x) (at + 1) xs ys, k) (cons-append (topBit (m .top) (stepOn t m d x)) (at + 1) _ _)
