@@ -2,6 +2,7 @@
 pub mod Digits
 pub mod Apart
 pub mod Closure
+pub mod Guarded
 pub mod Still
 pub mod Settled
 pub mod Counting
