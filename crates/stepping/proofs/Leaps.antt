@@ -51,8 +51,8 @@ module _ {t : List ℕ} {m : Masks} {text ends₀ ends : List ℕ} {d₀ base d 
 
   -- or the walk has room
   pub has-room : (j ≡ length text → ⊥) → length text ≤ length ends₀ → base + length text < 2 ^ 32
-      → Room (record { d = d; at = at + (j - i); n = n; i = j }) text ends
-  has-room e room fits = record { left = omega arith; room = omega arith; behind = omega arith; fits = omega arith }
+      → Room (record { d = d; at = at + (j - i); n = n; i = j }) (length text) text ends
+  has-room e room fits = record { left = omega arith; within = omega arith; room = omega arith; behind = omega arith; fits = omega arith }
 
   -- and leads on
   pub turn : {r : Spot} {ends′ : List ℕ} → Walked t m text ends d (at + (j - i)) n j r ends′

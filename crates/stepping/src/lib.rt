@@ -138,6 +138,7 @@ pub fn run(
             q,
             p.home,
             stop,
+            text.len(),
             text,
             ends,
             Spot {

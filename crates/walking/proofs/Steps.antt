@@ -10,6 +10,7 @@ use borrow.Author.Tests.{eqb-true}
 use Rattle.words.specs.Bit.{isSet, bit}
 use Rattle.words.specs.ForwardStep.{wrapSub, move, flood, advance, blockStarts, blockEnds, opening}
 use Rattle.words.proofs.Digits.{or-bit, wrapped}
+use Rattle.words.proofs.Guarded.{flood-guarded}
 use Rattle.words.proofs.Still.{flood-none, flood-lt, move-lt, move-odd, bit-odd, odd-bit}
 use Rattle.words.proofs.Settled.{flood-again, flood-home, flood-quiet, home-in, home-lt, has-beside}
 use Rattle.walking.specs.declared.Masks.{Masks}
@@ -149,12 +150,14 @@ settled-by s t = s .says t
 
 pub blocks-are : {optional home first last less : ℕ} {stays : Bool} → home ≡ opening 64 optional → first ≡ blockStarts 64 optional → last ≡ blockEnds 64 optional → first < 2 ^ 64 → less < 2 ^ 64
     → (less + 1) % 2 ^ 64 ≡ first
-    → BlocksOf optional (record { home = home; less = less; last = last; touch = bitAnd (bitOr optional first) ((2 ^ 64 - 1) - home); stays = stays })
+    → BlocksOf optional (record { home = home; less = less; last = last; guard = last * 2 % 2 ^ 64; touch = bitAnd (bitOr optional first) ((2 ^ 64 - 1) - home); free = eqb (bitAnd (last * 2 % 2 ^ 64) first) 0; stays = stays })
 blocks-are {optional} {home} {first} {last} {less} eh ef el hf hl e = record {
   home = eh;
   less = wrapped first 1 less (omega arith) hl e ∙ ap (λ (i : ℕ). wrapSub 64 i 1) ef;
   small = rw ef at hf;
   last = el;
+  guard = rw el;
+  free = λ t. rw (← ef) (eqb-true (bitAnd (last * 2 % 2 ^ 64) first) 0 t);
   touch = rw (eh, ef);
 }
 
@@ -172,3 +175,19 @@ flood-turned optional q of d t hd hl ht e =
     let hg : g < 2 ^ 64 = or-lt 64 d (q .last) hd hl in
     let k : t ≡ (2 ^ 64 - 1) - wrapSub 64 g (blockStarts 64 optional) = turned g (blockStarts 64 optional) (q .less) t hg (of .small) ht (of .less) e in
     ap (λ (n : ℕ). bitOr d (bitAnd optional (bitXor n g))) k ∙ ap (λ (f : ℕ). bitOr d (bitAnd optional (bitXor ((2 ^ 64 - 1) - wrapSub 64 (bitOr d f) (blockStarts 64 optional)) (bitOr d f)))) (of .last)
+
+-- ---- `flooded_free`
+
+pub flood-free : (optional : ℕ) (q : Blocks) → BlocksOf optional q → q .free ≡ true → optional % 2 ≡ 0 → optional < 2 ^ 64 → (d t : ℕ) → d < 2 ^ 64 → q .guard < 2 ^ 64 → t < 2 ^ 64
+    → (t + bitOr d (q .guard)) % 2 ^ 64 ≡ q .less
+    → bitOr d (bitAnd optional t) ≡ flood 64 d optional (blockStarts 64 optional) (blockEnds 64 optional)
+flood-free optional q of free even word d t hd hg ht e =
+    let g = bitOr d (q .guard) in
+    let k : t ≡ (2 ^ 64 - 1) - wrapSub 64 g (blockStarts 64 optional) =
+    turned g (blockStarts 64 optional) (q .less) t (or-lt 64 d (q .guard) hd hg) (of .small) ht (of .less) e in
+    ap (λ (n : ℕ). bitOr d (bitAnd optional n)) k
+    ∙ ap (λ (h : ℕ). bitOr d (bitAnd optional ((2 ^ 64 - 1) - wrapSub 64 (bitOr d h) (blockStarts 64 optional)))) (of .guard)
+    ∙ flood-guarded 64 d optional hd word (even-bit optional even) (rw (of .guard) at (of .free free))
+
+pub even-of : {m : Masks} {d : ℕ} → Settled m d → m .optional % 2 ≡ 0
+even-of s = s .even

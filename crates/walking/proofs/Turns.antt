@@ -15,7 +15,7 @@ use Rattle.words.specs.ForwardStep.{topBit}
 use Rattle.walking.specs.declared.Masks.{Masks}
 use Rattle.walking.specs.declared.Spot.{Spot}
 use Rattle.walking.specs.Stepping.{stepOn, stateAfter, endsIn}
-use Rattle.walking.specs.Walking.{Going, Walked, Passed, Room}
+use Rattle.walking.specs.Walking.{Going, Walked, Passed, Stayed, Room}
 use Rattle.walking.specs.Settling.{Settled, StepsTo, Stays}
 
 -- one turn of each definition
@@ -78,9 +78,9 @@ module _ {t : List ℕ} {m : Masks} {text ends₀ ends : List ℕ} {d₀ at₀ n
     pub stopped : {r : Bool} → r ≡ topBit (m .top) d′ → r ≡ false → Walked t m text ends₀ d₀ at₀ n₀ i₀ (record { d = d′; at = at + 1; n = n; i = i + 1 }) ends
     stopped er z = record { moves = omega arith; going = passed er z }
 
-  -- or at the end of the text
-  pub walked : i₀ < length text → length text ≤ i → Walked t m text ends₀ d₀ at₀ n₀ i₀ (record { d = d; at = at; n = n; i = i }) ends
-  walked h s = record { moves = omega arith; going = g }
+  -- or where it is
+  pub walked : i₀ < i → Walked t m text ends₀ d₀ at₀ n₀ i₀ (record { d = d; at = at; n = n; i = i }) ends
+  walked h = record { moves = h; going = g }
 
   -- over what may be passed
   pub leapt : {at′ j : ℕ} → Passed t m d text i j → at′ + i ≡ at + j → Going t m text ends₀ d₀ at₀ n₀ i₀ ends d at′ n j
@@ -112,49 +112,53 @@ module _ {t : List ℕ} {m : Masks} {text ends₀ ends : List ℕ} {d₀ at₀ n
 
 -- ---- a walk, whose states are settled
 
-pub record Strolling (t : List ℕ) (m : Masks) (text ends₀ : List ℕ) (d₀ at₀ n₀ i₀ : ℕ) (ends : List ℕ) (d at n i : ℕ) : Type 0 where
+pub record Strolling (t : List ℕ) (m : Masks) (until : ℕ) (text ends₀ : List ℕ) (d₀ at₀ n₀ i₀ : ℕ) (ends : List ℕ) (d at n i : ℕ) : Type 0 where
   pub going : Going t m text ends₀ d₀ at₀ n₀ i₀ ends d at n i
+  pub far : until ≤ length text
   pub settled : Settled m d
 
-pub set-out : (t : List ℕ) (m : Masks) (text ends₀ : List ℕ) (d₀ at₀ n₀ i₀ : ℕ) → i₀ < length text → Settled m d₀
-    → Strolling t m text ends₀ d₀ at₀ n₀ i₀ ends₀ d₀ at₀ n₀ i₀
-set-out t m text ends₀ d₀ at₀ n₀ i₀ h o = record { going = begun t m text ends₀ d₀ at₀ n₀ i₀ (omega arith); settled = o }
+pub set-out : (t : List ℕ) (m : Masks) (text ends₀ : List ℕ) (d₀ at₀ n₀ i₀ until : ℕ) → i₀ < until → until ≤ length text → Settled m d₀
+    → Strolling t m until text ends₀ d₀ at₀ n₀ i₀ ends₀ d₀ at₀ n₀ i₀
+set-out t m text ends₀ d₀ at₀ n₀ i₀ until l w o = record { going = begun t m text ends₀ d₀ at₀ n₀ i₀ (omega arith); far = w; settled = o }
 
-module _ {t : List ℕ} {m : Masks} {text ends₀ ends : List ℕ} {d₀ at₀ n₀ i₀ d at n i : ℕ}
-    (g : Strolling t m text ends₀ d₀ at₀ n₀ i₀ ends d at n i) where
-  module _ {b d′ : ℕ} (h : i < length text) (eb : b ≡ getD text i 0) (es : StepsTo m d (getD t b 0) d′) where
-    pub stroll-passed : {r : Bool} → r ≡ topBit (m .top) d′ → r ≡ false → Strolling t m text ends₀ d₀ at₀ n₀ i₀ ends d′ (at + 1) n (i + 1)
-    stroll-passed er z = record { going = passed (g .going) h eb (es .is) er z; settled = es .settles }
+module _ {t : List ℕ} {m : Masks} {text ends₀ ends : List ℕ} {d₀ at₀ n₀ i₀ d at n i until : ℕ}
+    (g : Strolling t m until text ends₀ d₀ at₀ n₀ i₀ ends d at n i) where
+  module _ {b d′ : ℕ} (l : i < until) (eb : b ≡ getD text i 0) (es : StepsTo m d (getD t b 0) d′) where
+    h : i < length text
+    h = omega (arith, g .far)
+
+    pub stroll-passed : {r : Bool} → r ≡ topBit (m .top) d′ → r ≡ false → Strolling t m until text ends₀ d₀ at₀ n₀ i₀ ends d′ (at + 1) n (i + 1)
+    stroll-passed er z = record { going = passed (g .going) h eb (es .is) er z; far = g .far; settled = es .settles }
 
     pub stroll-ended : {r : Bool} → r ≡ topBit (m .top) d′ → r ≡ true
-        → Strolling t m text ends₀ d₀ at₀ n₀ i₀ (set ends n (at + 1)) d′ (at + 1) (n + 1) (i + 1)
-    stroll-ended er z = record { going = ended (g .going) h eb (es .is) er z; settled = es .settles }
+        → Strolling t m until text ends₀ d₀ at₀ n₀ i₀ (set ends n (at + 1)) d′ (at + 1) (n + 1) (i + 1)
+    stroll-ended er z = record { going = ended (g .going) h eb (es .is) er z; far = g .far; settled = es .settles }
 
     pub stroll-stopped : {r : Bool} → r ≡ topBit (m .top) d′ → r ≡ false
         → Walked t m text ends₀ d₀ at₀ n₀ i₀ (record { d = d′; at = at + 1; n = n; i = i + 1 }) ends
     stroll-stopped er z = stopped (g .going) h eb (es .is) er z
 
-  pub stroll-over : i₀ < length text → length text ≤ i → Walked t m text ends₀ d₀ at₀ n₀ i₀ (record { d = d; at = at; n = n; i = i }) ends
-  stroll-over h s = walked (g .going) h s
+  pub stroll-over : i₀ < until → until ≤ i → Walked t m text ends₀ d₀ at₀ n₀ i₀ (record { d = d; at = at; n = n; i = i }) ends
+  stroll-over h s = walked (g .going) (omega arith)
 
 -- the same after bytes at which the state stays
-module _ {t : List ℕ} {m : Masks} {text ends₀ ends : List ℕ} {d₀ at₀ n₀ i₀ d at n i j : ℕ}
-    (g : Strolling t m text ends₀ d₀ at₀ n₀ i₀ ends d at n i) (p : Passed t m d text i j) where
-  on : Strolling t m text ends₀ d₀ at₀ n₀ i₀ ends d (at + (j - i)) n j
-  on = record { going = leapt (g .going) p (omega (arith, p .fore)); settled = g .settled }
+module _ {t : List ℕ} {m : Masks} {text ends₀ ends : List ℕ} {d₀ at₀ n₀ i₀ d at n i j until : ℕ}
+    (g : Strolling t m until text ends₀ d₀ at₀ n₀ i₀ ends d at n i) (p : Stayed t m d until text i j) where
+  on : Strolling t m until text ends₀ d₀ at₀ n₀ i₀ ends d (at + (j - i)) n j
+  on = record { going = leapt (g .going) (p .passed) (omega (arith, p .passed .fore)); far = g .far; settled = g .settled }
 
-  pub stay-over : i₀ < length text → j ≡ length text → Walked t m text ends₀ d₀ at₀ n₀ i₀ (record { d = d; at = at + (j - i); n = n; i = j }) ends
-  stay-over h e = stroll-over on h (omega arith)
+  pub stay-over : i₀ < until → j ≡ until → Walked t m text ends₀ d₀ at₀ n₀ i₀ (record { d = d; at = at + (j - i); n = n; i = j }) ends
+  stay-over h e = walked (on .going) (omega arith)
 
-  module _ {b d′ : ℕ} (h : j ≡ length text → ⊥) (eb : b ≡ getD text j 0) (es : StepsTo m d (getD t b 0) d′) where
-    left : j < length text
-    left = omega (arith, p .within)
+  module _ {b d′ : ℕ} (h : j ≡ until → ⊥) (eb : b ≡ getD text j 0) (es : StepsTo m d (getD t b 0) d′) where
+    left : j < until
+    left = omega (arith, p .short)
 
-    pub stay-passed : {r : Bool} → r ≡ topBit (m .top) d′ → r ≡ false → Strolling t m text ends₀ d₀ at₀ n₀ i₀ ends d′ (at + (j - i) + 1) n (j + 1)
+    pub stay-passed : {r : Bool} → r ≡ topBit (m .top) d′ → r ≡ false → Strolling t m until text ends₀ d₀ at₀ n₀ i₀ ends d′ (at + (j - i) + 1) n (j + 1)
     stay-passed er z = stroll-passed on left eb es er z
 
     pub stay-ended : {r : Bool} → r ≡ topBit (m .top) d′ → r ≡ true
-        → Strolling t m text ends₀ d₀ at₀ n₀ i₀ (set ends n (at + (j - i) + 1)) d′ (at + (j - i) + 1) (n + 1) (j + 1)
+        → Strolling t m until text ends₀ d₀ at₀ n₀ i₀ (set ends n (at + (j - i) + 1)) d′ (at + (j - i) + 1) (n + 1) (j + 1)
     stay-ended er z = stroll-ended on left eb es er z
 
     pub stay-stopped : {r : Bool} → r ≡ topBit (m .top) d′ → r ≡ false
@@ -162,7 +166,7 @@ module _ {t : List ℕ} {m : Masks} {text ends₀ ends : List ℕ} {d₀ at₀ n
     stay-stopped er z = stroll-stopped on left eb es er z
 
 -- one byte alone
-module _ {t : List ℕ} {m : Masks} {text ends : List ℕ} {s : Spot} {b d′ : ℕ} (room : Room s text ends) (eb : b ≡ getD text (s .i) 0)
+module _ {t : List ℕ} {m : Masks} {text ends : List ℕ} {s : Spot} {b d′ : ℕ} (room : Room s (length text) text ends) (eb : b ≡ getD text (s .i) 0)
     (es : d′ ≡ stepOn t m (s .d) b) where
   start : Going t m text ends (s .d) (s .at) (s .n) (s .i) ends (s .d) (s .at) (s .n) (s .i)
   start = begun t m text ends (s .d) (s .at) (s .n) (s .i) (omega arith)
@@ -174,6 +178,9 @@ module _ {t : List ℕ} {m : Masks} {text ends : List ℕ} {s : Spot} {b d′ : 
   pub one-ended : {r : Bool} → r ≡ topBit (m .top) d′ → r ≡ true
       → Walked t m text ends (s .d) (s .at) (s .n) (s .i) (record { d = d′; at = s .at + 1; n = s .n + 1; i = s .i + 1 }) (set ends (s .n) (s .at + 1))
   one-ended er z = record { moves = omega arith; going = ended start (room .left) eb es er z }
+
+pub whole-room : {s : Spot} {until : ℕ} {text ends : List ℕ} → Room s until text ends → Room s (length text) text ends
+whole-room r = record { left = omega (arith, r .left, r .within); within = omega arith; room = r .room; behind = r .behind; fits = r .fits }
 
 -- ---- passing over
 
@@ -202,12 +209,15 @@ pass-one t m d text i h e z = record {
       rw q (sym (rw (e, z) at (ends-turn t m d at text i h)));
 }
 
+pub stay-none : (t : List ℕ) (m : Masks) (d until : ℕ) (text : List ℕ) (i : ℕ) → i ≤ until → until ≤ length text → Stayed t m d until text i i
+stay-none t m d until text i l w = record { passed = pass-none t m d text i (omega arith); short = l }
+
 -- a byte at which the state stays
-pub stay-on : {t : List ℕ} {m : Masks} {d : ℕ} {text : List ℕ} {i j c : ℕ} {s r : Bool} → Passed t m d text i j → j < length text → c ≡ getD text j 0 → Stays m d (getD t c 0) s
-    → not s ≡ false → r ≡ topBit (m .top) d → r ≡ false → Passed t m d text i (j + 1)
-stay-on {t} {m} {d} {text} {i} {j} {c} {s} {r} p h ec st e er z =
+pub stay-on : {t : List ℕ} {m : Masks} {d until : ℕ} {text : List ℕ} {i j c : ℕ} {s r : Bool} → Stayed t m d until text i j → j < until → until ≤ length text → c ≡ getD text j 0
+    → Stays m d (getD t c 0) s → not s ≡ false → r ≡ topBit (m .top) d → r ≡ false → Stayed t m d until text i (j + 1)
+stay-on {t} {m} {d} {until} {text} {i} {j} {c} {s} {r} p h w ec st e er z =
     let stays : stepOn t m d c ≡ d = st .says (not-false s e) in
-    pass-more p (pass-one t m d text j h (rw ec at stays) (sym er ∙ z))
+    record { passed = pass-more (p .passed) (pass-one t m d text j (omega arith) (rw ec at stays) (sym er ∙ z)); short = omega arith }
 
 -- ---- stepping over two runs of bytes is stepping over the first and then over the second
 

@@ -1,7 +1,7 @@
 -- States as a step leaves them, and what a walk keeps at hand of the optional positions. Assumes nothing.
 use mathlib.Core.Path.{_≡_}
 use mathlib.Core.Bool.{Bool, true}
-use Prim.Native.Nat.{ℕ, _-_, _%_, _^_, _<_}
+use Prim.Native.Nat.{ℕ, _-_, _*_, _%_, _^_, _<_}
 use lib.Bits.{bitAnd, bitOr}
 use Rattle.words.specs.ForwardStep.{wrapSub, flood, blockStarts, blockEnds, opening}
 use Rattle.walking.specs.declared.Masks.{Masks}
@@ -13,6 +13,8 @@ pub record BlocksOf (optional : ℕ) (q : Blocks) : Type 0 where
   pub less : q .less ≡ wrapSub 64 (blockStarts 64 optional) 1
   pub small : blockStarts 64 optional < 2 ^ 64
   pub last : q .last ≡ blockEnds 64 optional
+  pub guard : q .guard ≡ blockEnds 64 optional * 2 % 2 ^ 64
+  pub free : q .free ≡ true → bitAnd (q .guard) (blockStarts 64 optional) ≡ 0
   pub touch : q .touch ≡ bitAnd (bitOr optional (blockStarts 64 optional)) ((2 ^ 64 - 1) - opening 64 optional)
 
 -- Bit 0 is set, and the flood leaves the state as it is; bit 0 is not optional.

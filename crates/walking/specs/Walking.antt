@@ -33,9 +33,15 @@ pub record Passed (t : List ℕ) (m : Masks) (d : ℕ) (text : List ℕ) (i j : 
   pub state : stateAfter t m d (drop j text) ≡ stateAfter t m d (drop i text)
   pub ends : (at at′ : ℕ) → at′ + i ≡ at + j → endsIn t m d at′ (drop j text) ≡ endsIn t m d at (drop i text)
 
--- a byte is left, each byte left finds an entry of the lent list, and its count fits
-pub record Room (s : Spot) (text ends : List ℕ) : Type 0 where
-  pub left : s .i < length text
+-- a pass that goes no further than `until`
+pub record Stayed (t : List ℕ) (m : Masks) (d until : ℕ) (text : List ℕ) (i j : ℕ) : Type 0 where
+  pub passed : Passed t m d text i j
+  pub short : j ≤ until
+
+-- a byte is left before `until`, each byte left finds an entry of the lent list, and its count fits
+pub record Room (s : Spot) (until : ℕ) (text ends : List ℕ) : Type 0 where
+  pub left : s .i < until
+  pub within : until ≤ length text
   pub room : length text ≤ length ends
   pub behind : s .n ≤ s .i
   pub fits : s .at + length text < 2 ^ 32 + s .i

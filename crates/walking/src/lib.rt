@@ -2,12 +2,13 @@
 // stored in a lent list, at any table and masks. A walk promises what the formula gives byte by byte;
 // it floods only where that changes something.
 ghost use mathlib.Core.Path.{_≡_};
-ghost use Prim.Native.Nat.{_<_, _≤_};
+ghost use mathlib.Core.Bool.{true};
+ghost use Prim.Native.Nat.{_%_, _<_, _≤_};
 ghost use lib.Bits.{bitAnd};
 ghost use lib.ListN.{length};
 ghost use Rattle.words.specs.ForwardStep as Step;
 ghost use Rattle.walking.specs.Stepping.{stepN};
-ghost use Rattle.walking.specs.Walking.{Walked, Passed, Room};
+ghost use Rattle.walking.specs.Walking.{Walked, Stayed, Room};
 ghost use Rattle.walking.specs.Settling.{BlocksOf, Settled, SettledIs, StepsTo, Stays};
 
 // A rule's masks, and the number of its top position.
@@ -41,14 +42,17 @@ pub fn step(d: u64, b: u64, k: u64, m: Masks) -> u64
 }
 
 // What a walk keeps at hand of the optional positions: the opening state, one less than the bits before
-// the blocks, the last bit of each block, and where a state outside the opening state touches a block
-// or the bit before one; and whether a position both may be missing and repeats, as in `.*`, so that it pays to pass over
-// bytes at which a state stays. Only speed hangs on the last.
+// the blocks, the last bit of each block, the bit after that, where a state outside the opening state
+// touches a block or the bit before one; whether no bit after a block is the bit before another; and
+// whether a position both may be missing and repeats, as in `.*`, so that it pays to pass over bytes at
+// which a state stays. Only speed hangs on the last.
 pub struct Blocks {
     pub home: u64,
     pub less: u64,
     pub last: u64,
+    pub guard: u64,
     pub touch: u64,
+    pub free: bool,
     pub stays: bool,
 }
 
@@ -60,12 +64,16 @@ pub fn blocks_of(optional: u64, repeats: u64) -> Blocks
     let last = words::block_ends(optional);
     let touch = (optional | first) & !home;
     let less = std::num::wrapping_sub_u64(first, 1);
+    let guard = last << 1;
+    let free = guard & first == 0;
     let stays = optional & repeats != 0;
     Blocks {
         home: home,
         less: less,
         last: last,
+        guard: guard,
         touch: touch,
+        free: free,
         stays: stays,
     }
 }
@@ -78,6 +86,19 @@ fn flooded(d: u64, optional: u64, q: Blocks) -> u64
     let g = d | q.last;
     let t = std::num::wrapping_sub_u64(q.less, g);
     d | (optional & (t ^ g))
+}
+
+// The flood where the blocks are free: guarded after its last bit a block needs no xor, one operation
+// less again.
+fn flooded_free(d: u64, optional: u64, q: Blocks) -> u64
+    requires { ⌜ BlocksOf optional q ⌝ }
+    requires { ⌜ q .free ≡ true ⌝ }
+    requires { ⌜ optional % 2 ≡ 0 ⌝ }
+    ensures { λ r. ⌜ r ≡ Step.flood 64 d optional (Step.blockStarts 64 optional) (Step.blockEnds 64 optional) ⌝ }
+{
+    let g = d | q.guard;
+    let t = std::num::wrapping_sub_u64(q.less, g);
+    d | (optional & t)
 }
 
 // Whether a state is as a step leaves it: odd, and flooded, as the opening state is. One made by hand
@@ -133,14 +154,26 @@ fn step_over(d: u64, b: u64, m: Masks, q: Blocks) -> u64
     flooded(x, m.optional, q)
 }
 
-// Steps from a place on, where no position is optional but leading ones, until the text ends or, at `stop` or past it, the
-// state is `home`.
+// One step that floods in any case, where the blocks are free.
+fn step_free(d: u64, b: u64, m: Masks, q: Blocks) -> u64
+    requires { ⌜ BlocksOf (m .optional) q ⌝ }
+    requires { ⌜ q .free ≡ true ⌝ }
+    requires { ⌜ Settled m d ⌝ }
+    ensures { λ r. ⌜ StepsTo m d b r ⌝ }
+{
+    let x = move_home(d, b, m.repeats, q.home);
+    flooded_free(x, m.optional, q)
+}
+
+// Steps from a place on, where no position is optional but leading ones, up to `until` or, at `stop` or
+// past it, until the state is `home`.
 fn walk_plain(
     table: &[u64],
     m: Masks,
     q: Blocks,
     home: u64,
     stop: usize,
+    until: usize,
     text: &[u8],
     ends: &mut [u32],
     s: Spot,
@@ -149,7 +182,7 @@ fn walk_plain(
     requires { ⌜ q .touch ≡ 0 ⌝ }
     requires { ⌜ length (now table) ≡ 256 ⌝ }
     requires { ⌜ m .top < 64 ⌝ }
-    requires { ⌜ Room s (now text) (now ends) ⌝ }
+    requires { ⌜ Room s until (now text) (now ends) ⌝ }
     requires { ⌜ Settled m (s .d) ⌝ }
     ensures { λ r. ⌜ Walked (now (table .entry)) m (now (text .entry)) (now (ends .entry)) (s .d) (s .at) (s .n) (s .i) r (now (ends .exit)) ⌝ }
 {
@@ -157,7 +190,7 @@ fn walk_plain(
     let mut at = s.at;
     let mut n = s.n;
     let mut i = s.i;
-    while i < text.len() {
+    while i < until {
         let c = looks::index(text[i]);
         d = step_plain(d, table[c], m, q);
         at += 1;
@@ -191,6 +224,7 @@ fn walk_over(
     q: Blocks,
     home: u64,
     stop: usize,
+    until: usize,
     text: &[u8],
     ends: &mut [u32],
     s: Spot,
@@ -198,7 +232,7 @@ fn walk_over(
     requires { ⌜ BlocksOf (m .optional) q ⌝ }
     requires { ⌜ length (now table) ≡ 256 ⌝ }
     requires { ⌜ m .top < 64 ⌝ }
-    requires { ⌜ Room s (now text) (now ends) ⌝ }
+    requires { ⌜ Room s until (now text) (now ends) ⌝ }
     requires { ⌜ Settled m (s .d) ⌝ }
     ensures { λ r. ⌜ Walked (now (table .entry)) m (now (text .entry)) (now (ends .entry)) (s .d) (s .at) (s .n) (s .i) r (now (ends .exit)) ⌝ }
 {
@@ -206,7 +240,7 @@ fn walk_over(
     let mut at = s.at;
     let mut n = s.n;
     let mut i = s.i;
-    while i < text.len() {
+    while i < until {
         let c = looks::index(text[i]);
         d = step_over(d, table[c], m, q);
         at += 1;
@@ -243,20 +277,21 @@ fn stays_at(d: u64, b: u64, m: Masks, q: Blocks) -> bool
     x == d
 }
 
-// The place up to which the state stays as it is, and reports no end.
-fn staying(table: &[u64], m: Masks, q: Blocks, d: u64, text: &[u8], i: usize) -> usize
+// The place up to which, before `until`, the state stays as it is, and reports no end.
+fn staying(table: &[u64], m: Masks, q: Blocks, d: u64, until: usize, text: &[u8], i: usize) -> usize
     requires { ⌜ BlocksOf (m .optional) q ⌝ }
     requires { ⌜ length (now table) ≡ 256 ⌝ }
     requires { ⌜ m .top < 64 ⌝ }
     requires { ⌜ Settled m d ⌝ }
-    requires { ⌜ i ≤ length (now text) ⌝ }
-    ensures { λ r. ⌜ Passed (now (table .entry)) m d (now (text .entry)) i r ⌝ }
+    requires { ⌜ i ≤ until ⌝ }
+    requires { ⌜ until ≤ length (now text) ⌝ }
+    ensures { λ r. ⌜ Stayed (now (table .entry)) m d until (now (text .entry)) i r ⌝ }
 {
     if words::reports(d, m.top) {
         return i;
     }
     let mut j = i;
-    while j < text.len() {
+    while j < until {
         let c = looks::index(text[j]);
         if !stays_at(d, table[c], m, q) {
             return j;
@@ -273,6 +308,7 @@ fn walk_staying(
     q: Blocks,
     home: u64,
     stop: usize,
+    until: usize,
     text: &[u8],
     ends: &mut [u32],
     s: Spot,
@@ -280,7 +316,7 @@ fn walk_staying(
     requires { ⌜ BlocksOf (m .optional) q ⌝ }
     requires { ⌜ length (now table) ≡ 256 ⌝ }
     requires { ⌜ m .top < 64 ⌝ }
-    requires { ⌜ Room s (now text) (now ends) ⌝ }
+    requires { ⌜ Room s until (now text) (now ends) ⌝ }
     requires { ⌜ Settled m (s .d) ⌝ }
     ensures { λ r. ⌜ Walked (now (table .entry)) m (now (text .entry)) (now (ends .entry)) (s .d) (s .at) (s .n) (s .i) r (now (ends .exit)) ⌝ }
 {
@@ -288,11 +324,11 @@ fn walk_staying(
     let mut at = s.at;
     let mut n = s.n;
     let mut i = s.i;
-    while i < text.len() {
-        let j = staying(table, m, q, d, text, i);
+    while i < until {
+        let j = staying(table, m, q, d, until, text, i);
         let stayed = (j - i) as u32;
         let here = at + stayed;
-        if j == text.len() {
+        if j == until {
             return Spot {
                 d: d,
                 at: here,
@@ -330,7 +366,7 @@ fn walk_staying(
 fn walk_one(table: &[u64], m: Masks, text: &[u8], ends: &mut [u32], s: Spot) -> Spot
     requires { ⌜ length (now table) ≡ 256 ⌝ }
     requires { ⌜ m .top < 64 ⌝ }
-    requires { ⌜ Room s (now text) (now ends) ⌝ }
+    requires { ⌜ Room s (length (now text)) (now text) (now ends) ⌝ }
     ensures { λ r. ⌜ Walked (now (table .entry)) m (now (text .entry)) (now (ends .entry)) (s .d) (s .at) (s .n) (s .i) r (now (ends .exit)) ⌝ }
 {
     let i = s.i;
@@ -365,6 +401,7 @@ pub fn walk(
     q: Blocks,
     home: u64,
     stop: usize,
+    until: usize,
     text: &[u8],
     ends: &mut [u32],
     s: Spot,
@@ -372,17 +409,17 @@ pub fn walk(
     requires { ⌜ BlocksOf (m .optional) q ⌝ }
     requires { ⌜ length (now table) ≡ 256 ⌝ }
     requires { ⌜ m .top < 64 ⌝ }
-    requires { ⌜ Room s (now text) (now ends) ⌝ }
+    requires { ⌜ Room s until (now text) (now ends) ⌝ }
     ensures { λ r. ⌜ Walked (now (table .entry)) m (now (text .entry)) (now (ends .entry)) (s .d) (s .at) (s .n) (s .i) r (now (ends .exit)) ⌝ }
 {
     if is_settled(m, q, s.d) {
         if q.touch == 0 {
-            return walk_plain(table, m, q, home, stop, text, ends, s);
+            return walk_plain(table, m, q, home, stop, until, text, ends, s);
         }
         if q.stays {
-            return walk_staying(table, m, q, home, stop, text, ends, s);
+            return walk_staying(table, m, q, home, stop, until, text, ends, s);
         }
-        return walk_over(table, m, q, home, stop, text, ends, s);
+        return walk_over(table, m, q, home, stop, until, text, ends, s);
     }
     walk_one(table, m, text, ends, s)
 }

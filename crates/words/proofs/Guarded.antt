@@ -134,7 +134,7 @@ module _ (w d a : ℕ) (hd : d < 2 ^ w) (ha : a < 2 ^ w) (low : bit a 0 ≡ fals
   difference j hj =
       wrapSub-bit w (bitOr d (guards w a)) (blockStarts w a) j i-lt hj
       ∙ minus-below (bit (bitOr d (guards w a))) (λ k. bit d k || pushed false (bit (blockEnds w a)) k) (bit (blockStarts w a)) j
-        (λ k l. or-bit d (guards w a) k ∙ ap (λ (b : Bool). bit d k || b) (shl-bit w (blockEnds w a) k (lt-of-le-of-lt l hj)))
+      (λ k l. or-bit d (guards w a) k ∙ ap (λ (b : Bool). bit d k || b) (shl-bit w (blockEnds w a) k (lt-of-le-of-lt l hj)))
 
   pub flood-guarded : bitOr d (bitAnd a ((2 ^ w - 1) - wrapSub w (bitOr d (guards w a)) (blockStarts w a))) ≡ flood w d a (blockStarts w a) (blockEnds w a)
   unfolding i after
@@ -145,8 +145,8 @@ module _ (w d a : ℕ) (hd : d < 2 ^ w) (ha : a < 2 ^ w) (low : bit a 0 ≡ fals
       (or-lt w d (bitAnd a ((2 ^ w - 1) - r)) hd (lt-of-le-of-lt (and-le-l a ((2 ^ w - 1) - r)) ha))
       (flood-lt w d a (blockStarts w a) (blockEnds w a) hd ha)
       (λ j hj.
-        let n : bit ((2 ^ w - 1) - r) j ≡ not (minus false (λ k. bit d k || pushed false (bit (blockEnds w a)) k) (bit (blockStarts w a)) j) =
-        not-bit w r j (mod-lt (bitOr d (guards w a) + (2 ^ w - blockStarts w a)) (pow-pos w)) hj ∙ ap not (difference j hj) in
-        let e : bit (bitOr d (bitAnd a ((2 ^ w - 1) - r))) j ≡ closed (bit d) (bit a) j =
-        simp (or-bit, and-bit, n) (guarded-row (bit d) (bit a) (bit (blockStarts w a)) (bit (blockEnds w a)) (pushed false (bit (blockEnds w a))) row refl (λ k. refl) after-free j) in
-        e ∙ sym (flood-bit w d a (blockStarts w a) (blockEnds w a) i-lt row j hj))
+      let n : bit ((2 ^ w - 1) - r) j ≡ not (minus false (λ k. bit d k || pushed false (bit (blockEnds w a)) k) (bit (blockStarts w a)) j) =
+      not-bit w r j (mod-lt (bitOr d (guards w a) + (2 ^ w - blockStarts w a)) (pow-pos w)) hj ∙ ap not (difference j hj) in
+      let e : bit (bitOr d (bitAnd a ((2 ^ w - 1) - r))) j ≡ closed (bit d) (bit a) j =
+      simp (or-bit, and-bit, n) (guarded-row (bit d) (bit a) (bit (blockStarts w a)) (bit (blockEnds w a)) (pushed false (bit (blockEnds w a))) row refl (λ k. refl) after-free j) in
+      e ∙ sym (flood-bit w d a (blockStarts w a) (blockEnds w a) i-lt row j hj))

@@ -1,26 +1,25 @@
 -- `walking::staying` meets its contract. Its laws are in this crate's `proofs/`; `search LAW` finds a law's premises in `c`. Assumes nothing.
 use Prim.Native.Nat.{_-_}
-use lib.ListN.{length}
-use Rattle.walking.specs.Walking.{Passed}
-use Rattle.walking.proofs.Turns.{pass-none, stay-on}
+use Rattle.walking.specs.Walking.{Stayed}
+use Rattle.walking.proofs.Turns.{stay-none, stay-on}
 use borrow.Author.Needs.{needs}
 use Rattle.walking.proofs.staying.Statement.{statement}
 use Rattle.walking.proofs.staying.Tie as tie
 
 abbrev Inv-loop : tie.InvT-loop
-Inv-loop table m q d text i j₀ j = Passed table m d text i j
+Inv-loop table m q d until text i j₀ j = Stayed table m d until text i j
 
 abbrev μ-loop : tie.MeasureT-loop
-μ-loop table m q d text i j₀ j = length text - j
+μ-loop table m q d until text i j₀ j = until - j
 
 reports-requires : tie.Need-reports-requires Inv-loop μ-loop
 reports-requires c κs = search needs
 
 returns : tie.Need-returns Inv-loop μ-loop
-returns c = search pass-none
+returns c = search stay-none
 
 loop-holds : tie.Need-loop-holds Inv-loop μ-loop
-loop-holds c = search pass-none
+loop-holds c = search stay-none
 
 shared-slice-read-index : tie.Need-shared-slice-read-index Inv-loop μ-loop
 shared-slice-read-index c = search needs

@@ -1,5 +1,6 @@
 -- `walking::walk` meets its contract. Its laws are in this crate's `proofs/`; `search LAW` finds a law's premises in `c`. Assumes nothing.
 use Rattle.walking.proofs.Steps.{settled-by}
+use Rattle.walking.proofs.Turns.{whole-room}
 use borrow.Author.Needs.{needs}
 use Rattle.walking.proofs.walk.Statement.{statement}
 use Rattle.walking.proofs.walk.Tie as tie
@@ -35,7 +36,7 @@ returns-3 : tie.Need-returns-3
 returns-3 c = search needs
 
 walk-one-requires : tie.Need-walk-one-requires
-walk-one-requires c κs = search needs
+walk-one-requires c κs = (search needs, (search needs, search whole-room))
 
 same-length-4 : tie.Need-same-length-4
 same-length-4 c = search needs

@@ -1,16 +1,15 @@
 -- `walking::walk_plain` meets its contract. Its laws are in this crate's `proofs/`; `search LAW` finds a law's premises in `c`. Assumes nothing.
 use borrow.Author.Needs.{needs}
 use Prim.Native.Nat.{_-_}
-use lib.ListN.{length}
 use Rattle.walking.proofs.Turns.{Strolling, set-out, stroll-passed, stroll-ended, stroll-stopped, stroll-over}
 use Rattle.walking.proofs.walk_plain.Statement.{statement}
 use Rattle.walking.proofs.walk_plain.Tie as tie
 
 abbrev Inv-loop : tie.InvT-loop
-Inv-loop t m q home stop text ends₀ d₀ at₀ n₀ i₀ ends d at n i = Strolling t m text ends₀ d₀ at₀ n₀ i₀ ends d at n i
+Inv-loop t m q home stop until text ends₀ d₀ at₀ n₀ i₀ ends d at n i = Strolling t m until text ends₀ d₀ at₀ n₀ i₀ ends d at n i
 
 abbrev μ-loop : tie.MeasureT-loop
-μ-loop t m q home stop text ends₀ d₀ at₀ n₀ i₀ ends d at n i = length text - i
+μ-loop t m q home stop until text ends₀ d₀ at₀ n₀ i₀ ends d at n i = until - i
 
 loop-holds : tie.Need-loop-holds Inv-loop μ-loop
 loop-holds c = search set-out
