@@ -13,7 +13,7 @@ use Rattle.references.specs.declared.Held.{Held}
 use Rattle.references.specs.declared.Across.the-variants.{Completed, Passed, Growing}
 use Rattle.references.specs.declared.Crossing.{Crossing}
 use Rattle.references.specs.Crosses.{heldOf, JoinIs, CompletedIs, PassedIs, GrowingIs, CrossIs}
-use Rattle.walking.specs.declared.Masks.{Masks}
+use Rattle.steps.specs.declared.Masks.{Masks}
 use Rattle.feeding.specs.declared.State.{State}
 use Rattle.feeding.specs.declared.Rest.{Rest}
 use Rattle.feeding.specs.declared.Fed.{Fed}

@@ -16,10 +16,10 @@ use Rattle.references.proofs.Cuts.{all-held}
 use Rattle.amps.specs.Amps.{Verbatim}
 use Rattle.filling.specs.declared.Filled.{Filled}
 use Rattle.filling.specs.Filling.{FilledIs}
-use Rattle.walking.specs.declared.Masks.{Masks}
+use Rattle.steps.specs.declared.Masks.{Masks}
 use Rattle.feeding.specs.declared.State.{State}
 use Rattle.feeding.specs.declared.Next.{Next}
-use Rattle.walking.specs.Stepping.{endsIn}
+use Rattle.steps.specs.Stepping.{endsIn}
 use Rattle.feeding.specs.Feeding.{textOf, tailOf, Stepped, PartEnd, TokenIs, RestIs}
 use Rattle.feeding.proofs.Steps.{stepped-none, stepped-append}
 

@@ -8,8 +8,8 @@ use lib.ListN.{length, length-append}
 use lib.Seq.{length-sets}
 use borrow.Rule.Slice.PartMut.{putMid, midOf}
 use Rattle.model.proofs.LentLists.{sets-append, sets-from}
-use Rattle.walking.specs.declared.Masks.{Masks}
-use Rattle.walking.specs.Stepping.{stateAfter, endsIn}
+use Rattle.steps.specs.declared.Masks.{Masks}
+use Rattle.steps.specs.Stepping.{stateAfter, endsIn}
 use Rattle.walking.proofs.Turns.{state-append, ends-append}
 use Rattle.stepping.specs.declared.Ran.{Ran}
 use Rattle.stepping.specs.Running.{Scanned}

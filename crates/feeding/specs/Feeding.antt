@@ -6,8 +6,8 @@ use Prim.Native.Nat.{ℕ, _+_, _≤_, _<_}
 use lib.ListN.{length, drop}
 use lib.Seq.{sets}
 use Rattle.model.specs.References.{formLimit, heldMost, heldTail, letOut}
-use Rattle.walking.specs.declared.Masks.{Masks}
-use Rattle.walking.specs.Stepping.{stateAfter, endsIn}
+use Rattle.steps.specs.declared.Masks.{Masks}
+use Rattle.steps.specs.Stepping.{stateAfter, endsIn}
 use Rattle.references.specs.declared.Held.{Held}
 use Rattle.references.specs.Crosses.{heldOf}
 use Rattle.feeding.specs.declared.State.{State}

@@ -12,7 +12,7 @@ ghost use Rattle.feeding.specs.Feeding.{Stepped, PartEnd, TokenIs, RestI
 use plans::Plan;
 use references::Across;
 use references::Held;
-use walking::Masks;
+use steps::Masks;
 
 // Where a call stands: the states, the count of decoded bytes, and the count of ends that it has stored.
 pub struct State {

@@ -11,7 +11,7 @@ use references::Answer;
 use rules::Prepared;
 use searches::Rule;
 use searches::Span;
-use walking::Masks;
+use steps::Masks;
 
 // The number of the refusal of a call on a whole text with a list of so many entries, or 0.
 fn whole(text: usize, list: usize) -> u32

@@ -15,7 +15,7 @@ use Rattle.references.specs.declared.Answer.{Answer}
 use Rattle.references.specs.declared.Held.{Held}
 use Rattle.references.specs.Decoder.{refusing, counting}
 use Rattle.references.specs.Crosses.{heldOf, HeldFine}
-use Rattle.walking.specs.declared.Masks.{Masks}
+use Rattle.steps.specs.declared.Masks.{Masks}
 use Rattle.feeding.specs.declared.State.{State}
 use Rattle.feeding.specs.declared.Fed.{Fed}
 use Rattle.feeding.specs.Feeding.{textOf, tailOf, Stepped, FedIs}

@@ -26,8 +26,8 @@ use Rattle.words.proofs.Bridge.{words-are-plain}
 use Rattle.rules.specs.Tables.{tableOf}
 use Rattle.rules.proofs.FillLaws.{long-entries}
 use Rattle.rules.proofs.Encoded.{table-entry}
-use Rattle.walking.specs.declared.Masks.{Masks}
-use Rattle.walking.specs.Stepping.{stepN, stateAfter, endsIn}
+use Rattle.steps.specs.declared.Masks.{Masks}
+use Rattle.steps.specs.Stepping.{stepN, stateAfter, endsIn}
 use Rattle.feeding.specs.Feeding.{textOf, tailOf}
 use Rattle.scan_values.specs.Value.{scanLength, tableIn, positionsIn, masksIn, stateIn, finishedIn, rawIn, decodedIn, heldIn, possible, numberFor, slots, written}
 use Rattle.scan_values.proofs.Readback.{as-list, written-table, written-state, written-finished, written-raw, written-decoded, written-held, written-long, written-masks, written-possible}

@@ -13,7 +13,7 @@ use Rattle.model.specs.PlainScan as Plain
 use Rattle.model.specs.PlainScan.{Call, feed, finish, pieceOf, listOf}
 use Rattle.references.specs.declared.Answer.{Answer}
 use Rattle.references.specs.Decoder.{refusing, counting}
-use Rattle.walking.specs.Stepping.{stateAfter, endsIn}
+use Rattle.steps.specs.Stepping.{stateAfter, endsIn}
 use Rattle.feeding.specs.declared.State.{State}
 use Rattle.feeding.specs.Feeding.{textOf, tailOf}
 use Rattle.scan_values.specs.Value.{tableIn, masksIn, stateIn, rawIn, decodedIn, heldIn, written, numberFor}

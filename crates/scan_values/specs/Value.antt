@@ -11,7 +11,7 @@ use Rattle.model.specs.RuleText.{positionLimit}
 use Rattle.model.specs.NumberedAnswers.{textLimit}
 use Rattle.model.specs.References.{formLimit, heldMost, heldTail, canGrow}
 use Rattle.model.specs.PlainScan.{refusalFor}
-use Rattle.walking.specs.declared.Masks.{Masks}
+use Rattle.steps.specs.declared.Masks.{Masks}
 use Rattle.references.specs.declared.Held.{Held}
 use Rattle.references.specs.Crosses.{heldOf}
 

@@ -9,7 +9,7 @@ ghost use Rattle.references.specs.Crosses.{heldOf};
 ghost use Rattle.scan_values.specs.Value.{scanLength, heldAt, masksIn, isTail, BytesFit, LoadFine, LoadIs, PossibleIs, RefusedIs, HeldFits, slots, written};
 use references::Held;
 use references::Reference;
-use walking::Masks;
+use steps::Masks;
 
 // The rule's part: the table from 0 on, and these.
 pub const REPEATS: usize = 256;

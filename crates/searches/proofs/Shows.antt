@@ -9,7 +9,7 @@ use Rattle.model.specs.Occurrence.{Position, OccursAt, shortest}
 use Rattle.model.specs.WindowSearch.{earliestEnd, partFrom}
 use Rattle.model.proofs.Earliest.{none-earlier, earliest-occurs, part-occurs, part-empty}
 use Rattle.words.specs.Masks.{Encodes}
-use Rattle.walking.specs.declared.Masks.{Masks}
+use Rattle.steps.specs.declared.Masks.{Masks}
 use Rattle.windows.specs.declared.End.{End}
 use Rattle.windows.specs.declared.End.the-variants.{At, Dead, Open}
 use Rattle.windows.specs.Reading.{EndIs}

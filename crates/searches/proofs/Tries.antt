@@ -14,7 +14,7 @@ use Rattle.model.proofs.Truth.{T-true, T-false}
 use Rattle.model.proofs.Decided.{start-decided}
 use Rattle.model.proofs.Windows.{occurs-length, starts-are-verified}
 use Rattle.words.specs.Masks.{Encodes}
-use Rattle.walking.specs.declared.Masks.{Masks}
+use Rattle.steps.specs.declared.Masks.{Masks}
 use Rattle.windows.specs.declared.Seen.{Seen}
 use Rattle.windows.specs.declared.End.{End}
 use Rattle.windows.specs.declared.End.the-variants.{At, Dead, Open}

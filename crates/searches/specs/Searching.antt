@@ -10,7 +10,7 @@ use Rattle.model.specs.NumberedAnswers.{overwrite}
 use Rattle.model.specs.WindowSearch.{Inhabited, windowAt, shift, windowsFrom, windows, partFrom}
 use Rattle.model.specs.WindowSearch as WindowSearch
 use Rattle.words.specs.Masks.{Encodes}
-use Rattle.walking.specs.declared.Masks.{Masks}
+use Rattle.steps.specs.declared.Masks.{Masks}
 use Rattle.windows.specs.Reading.{Tables, FirstIs}
 use Rattle.searches.specs.declared.Rule.{Rule}
 use Rattle.searches.specs.declared.Tried.{Tried}

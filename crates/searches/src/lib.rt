@@ -6,7 +6,7 @@ ghost use Prim.Native.Nat.{_+_, _*_, _≤_, _<_, _^_};
 ghost use lib.ListN.{length};
 ghost use Rattle.windows.specs.Reading.{Tables, Window};
 ghost use Rattle.searches.specs.Searching.{BackFits, RuleFits, Spends, Allowed, CheckedIs, TriedIs, UnknownIs, TriesIs, SkimmedIs, PartIs, SearchFits, SearchedIs, SpanIs};
-use walking::Masks;
+use steps::Masks;
 use windows::End;
 
 // A prepared rule, beside its two tables: its shortest length, and its masks in both directions.

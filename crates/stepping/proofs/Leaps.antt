@@ -8,9 +8,9 @@ use native.Mathlib.Omega.{arith}
 use lib.ListN.{length, drop, drop-of-length-le}
 use lib.Seq.{sets}
 use Rattle.looks.specs.Looks.{Missed}
-use Rattle.walking.specs.declared.Masks.{Masks}
+use Rattle.steps.specs.declared.Masks.{Masks}
+use Rattle.steps.specs.Stepping.{stateAfter, endsIn}
 use Rattle.walking.specs.declared.Spot.{Spot}
-use Rattle.walking.specs.Stepping.{stateAfter, endsIn}
 use Rattle.walking.specs.Walking.{Going, Walked, Passed, Room}
 use Rattle.walking.proofs.Turns.{leapt, joined, pass-none, pass-more}
 use Rattle.stepping.specs.Running.{Scanned}

@@ -22,8 +22,8 @@ use Rattle.words.proofs.Still.{flood-still, true-right, one-bit}
 use Rattle.words.proofs.Bridge.{top-bit}
 use Rattle.looks.specs.Looks.{Missed, pairAt}
 use Rattle.plans.specs.Plans.{Paired}
-use Rattle.walking.specs.declared.Masks.{Masks}
-use Rattle.walking.specs.Stepping.{stepN, stepOn, stateAfter, endsIn}
+use Rattle.steps.specs.declared.Masks.{Masks}
+use Rattle.steps.specs.Stepping.{stepN, stepOn, stateAfter, endsIn}
 use Rattle.walking.specs.Walking.{Passed}
 use Rattle.walking.proofs.Turns.{state-turn, ends-turn}
 use Rattle.stepping.proofs.Leaps.{pass-missed}

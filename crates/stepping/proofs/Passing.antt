@@ -14,8 +14,8 @@ use Rattle.words.proofs.Still.{move-none}
 use Rattle.looks.specs.Looks.{Missed, leaves, between, same, pairAt}
 use Rattle.plans.specs.declared.Plan.{Plan}
 use Rattle.plans.specs.Plans.{Home, Inside, Paired, Planned}
-use Rattle.walking.specs.declared.Masks.{Masks}
-use Rattle.walking.specs.Stepping.{stepN}
+use Rattle.steps.specs.declared.Masks.{Masks}
+use Rattle.steps.specs.Stepping.{stepN}
 use Rattle.walking.specs.Walking.{Passed}
 use Rattle.walking.proofs.Turns.{pass-one}
 use Rattle.stepping.proofs.Leaps.{pass-missed}

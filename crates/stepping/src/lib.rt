@@ -7,7 +7,7 @@ ghost use Rattle.plans.specs.Plans.{Paired, Planned};
 ghost use Rattle.walking.specs.Walking.{Passed};
 ghost use Rattle.stepping.specs.Running.{Scanned};
 use plans::Plan;
-use walking::Masks;
+use steps::Masks;
 use walking::Spot;
 
 // After some bytes: the state, and how many ends were stored.
@@ -119,7 +119,7 @@ pub fn run(
     requires { ⌜ base + length (now text) < 2 ^ 32 ⌝ }
     ensures { λ r. ⌜ Scanned (now (table .entry)) m d base (now (text .entry)) (now (ends .entry)) r (now (ends .exit)) ⌝ }
 {
-    let q = walking::blocks_of(m.optional, m.repeats);
+    let q = steps::blocks_of(m.optional, m.repeats);
     let mut d = d;
     let mut at = base;
     let mut n = 0;

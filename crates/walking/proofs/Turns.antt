@@ -12,11 +12,11 @@ use lib.Seq.{sets, drop-cons}
 use borrow.Author.Tests.{not-false}
 use Rattle.model.specs.Occurrence.{consIf}
 use Rattle.words.specs.ForwardStep.{topBit}
-use Rattle.walking.specs.declared.Masks.{Masks}
+use Rattle.steps.specs.declared.Masks.{Masks}
+use Rattle.steps.specs.Stepping.{stepOn, stateAfter, endsIn}
+use Rattle.steps.specs.Settling.{Settled, StepsTo, Stays}
 use Rattle.walking.specs.declared.Spot.{Spot}
-use Rattle.walking.specs.Stepping.{stepOn, stateAfter, endsIn}
 use Rattle.walking.specs.Walking.{Going, Walked, Passed, Stayed, Room}
-use Rattle.walking.specs.Settling.{Settled, StepsTo, Stays}
 
 -- one turn of each definition
 module _ (t : List ℕ) (m : Masks) (d at : ℕ) (text : List ℕ) (i : ℕ) (h : i < length text) where

@@ -5,9 +5,9 @@ use mathlib.Core.List.{List}
 use Prim.Native.Nat.{ℕ, _+_, _^_, _≤_, _<_}
 use lib.ListN.{length, drop}
 use lib.Seq.{sets}
-use Rattle.walking.specs.declared.Masks.{Masks}
+use Rattle.steps.specs.declared.Masks.{Masks}
+use Rattle.steps.specs.Stepping.{stateAfter, endsIn}
 use Rattle.walking.specs.declared.Spot.{Spot}
-use Rattle.walking.specs.Stepping.{stateAfter, endsIn}
 
 -- From the place (ends₀, d₀, at₀, n₀, i₀) the run has come to (ends, d, at, n, i): what the rest of the text makes of the second is what the text
 -- from i₀ on makes of the first.

@@ -1,22 +1,13 @@
-// The forward step of document 01, and walks that do it over decoded bytes from a place on, the ends
-// stored in a lent list, at any table and masks. A walk promises what the formula gives byte by byte;
-// it floods only where that changes something.
+// Walks that do the forward step over decoded bytes from a place on, the ends stored in a lent list, at
+// any table and masks. A walk promises what the formula gives byte by byte; it floods only where that
+// changes something.
 ghost use mathlib.Core.Path.{_≡_};
-ghost use mathlib.Core.Bool.{true};
-ghost use Prim.Native.Nat.{_%_, _<_, _≤_};
-ghost use lib.Bits.{bitAnd};
+ghost use Prim.Native.Nat.{_<_, _≤_};
 ghost use lib.ListN.{length};
-ghost use Rattle.words.specs.ForwardStep as Step;
-ghost use Rattle.walking.specs.Stepping.{stepN};
+ghost use Rattle.steps.specs.Settling.{BlocksOf, Settled};
 ghost use Rattle.walking.specs.Walking.{Walked, Stayed, Room};
-ghost use Rattle.walking.specs.Settling.{BlocksOf, Settled, SettledIs, StepsTo, Stays};
-
-// A rule's masks, and the number of its top position.
-pub struct Masks {
-    pub repeats: u64,
-    pub optional: u64,
-    pub top: u64,
-}
+use steps::Blocks;
+use steps::Masks;
 
 // A place in the text: the state, the count of bytes before it, the count of ends stored, and the
 // index of the next byte.
@@ -25,144 +16,6 @@ pub struct Spot {
     pub at: u32,
     pub n: usize,
     pub i: usize,
-}
-
-// One byte's step, at its table entry; k is what every step sets. Where nothing is optional there is
-// nothing to flood.
-pub fn step(d: u64, b: u64, k: u64, m: Masks) -> u64
-    ensures { λ r. ⌜ r ≡ stepN m k d b ⌝ }
-{
-    let s = b & m.repeats;
-    if m.optional == 0 {
-        return words::move_up(d, b, s, k);
-    }
-    let i = words::block_starts(m.optional);
-    let f = words::block_ends(m.optional);
-    words::advance(d, b, s, k, m.optional, i, f)
-}
-
-// What a walk keeps at hand of the optional positions: the opening state, one less than the bits before
-// the blocks, the last bit of each block, the bit after that, where a state outside the opening state
-// touches a block or the bit before one; whether no bit after a block is the bit before another; and
-// whether a position both may be missing and repeats, as in `.*`, so that it pays to pass over bytes at
-// which a state stays. Only speed hangs on the last.
-pub struct Blocks {
-    pub home: u64,
-    pub less: u64,
-    pub last: u64,
-    pub guard: u64,
-    pub touch: u64,
-    pub free: bool,
-    pub stays: bool,
-}
-
-pub fn blocks_of(optional: u64, repeats: u64) -> Blocks
-    ensures { λ r. ⌜ BlocksOf optional r ⌝ }
-{
-    let home = words::opening(optional);
-    let first = words::block_starts(optional);
-    let last = words::block_ends(optional);
-    let touch = (optional | first) & !home;
-    let less = std::num::wrapping_sub_u64(first, 1);
-    let guard = last << 1;
-    let free = guard & first == 0;
-    let stays = optional & repeats != 0;
-    Blocks {
-        home: home,
-        less: less,
-        last: last,
-        guard: guard,
-        touch: touch,
-        free: free,
-        stays: stays,
-    }
-}
-
-// The flood of a state: !(g - i) of the formula is (i - 1) - g, one operation less to wait for.
-fn flooded(d: u64, optional: u64, q: Blocks) -> u64
-    requires { ⌜ BlocksOf optional q ⌝ }
-    ensures { λ r. ⌜ r ≡ Step.flood 64 d optional (Step.blockStarts 64 optional) (Step.blockEnds 64 optional) ⌝ }
-{
-    let g = d | q.last;
-    let t = std::num::wrapping_sub_u64(q.less, g);
-    d | (optional & (t ^ g))
-}
-
-// The flood where the blocks are free: guarded after its last bit a block needs no xor, one operation
-// less again.
-fn flooded_free(d: u64, optional: u64, q: Blocks) -> u64
-    requires { ⌜ BlocksOf optional q ⌝ }
-    requires { ⌜ q .free ≡ true ⌝ }
-    requires { ⌜ optional % 2 ≡ 0 ⌝ }
-    ensures { λ r. ⌜ r ≡ Step.flood 64 d optional (Step.blockStarts 64 optional) (Step.blockEnds 64 optional) ⌝ }
-{
-    let g = d | q.guard;
-    let t = std::num::wrapping_sub_u64(q.less, g);
-    d | (optional & t)
-}
-
-// Whether a state is as a step leaves it: odd, and flooded, as the opening state is. One made by hand
-// may be neither.
-fn is_settled(m: Masks, q: Blocks, d: u64) -> bool
-    requires { ⌜ BlocksOf (m .optional) q ⌝ }
-    ensures { λ r. ⌜ SettledIs m d r ⌝ }
-{
-    if m.optional % 2 != 0 {
-        return false;
-    }
-    if d == q.home {
-        return true;
-    }
-    if d % 2 != 1 {
-        return false;
-    }
-    let f = flooded(d, m.optional, q);
-    f == d
-}
-
-// The move of a state that has the opening state in it. That is kept by the `home` beside `repeats`,
-// which does not wait for d: two operations after the shift, not three, and the leading optional
-// positions need no flood.
-fn move_home(d: u64, b: u64, repeats: u64, home: u64) -> u64
-    requires { ⌜ bitAnd d home ≡ home ⌝ }
-    ensures { λ r. ⌜ r ≡ Step.move 64 d b (bitAnd b repeats) home ⌝ }
-{
-    ((d << 1) & b) | (d & ((b & repeats) | home))
-}
-
-// One step where no position is optional but leading ones: there is nothing to flood.
-fn step_plain(d: u64, b: u64, m: Masks, q: Blocks) -> u64
-    requires { ⌜ BlocksOf (m .optional) q ⌝ }
-    requires { ⌜ q .touch ≡ 0 ⌝ }
-    requires { ⌜ Settled m d ⌝ }
-    ensures { λ r. ⌜ StepsTo m d b r ⌝ }
-{
-    move_home(d, b, m.repeats, q.home)
-}
-
-// One step. It floods only where the moved state touches a block, or the bit before one, since the
-// flood changes nothing elsewhere.
-fn step_over(d: u64, b: u64, m: Masks, q: Blocks) -> u64
-    requires { ⌜ BlocksOf (m .optional) q ⌝ }
-    requires { ⌜ Settled m d ⌝ }
-    ensures { λ r. ⌜ StepsTo m d b r ⌝ }
-{
-    let x = move_home(d, b, m.repeats, q.home);
-    if x & q.touch == 0 {
-        return x;
-    }
-    flooded(x, m.optional, q)
-}
-
-// One step that floods in any case, where the blocks are free.
-fn step_free(d: u64, b: u64, m: Masks, q: Blocks) -> u64
-    requires { ⌜ BlocksOf (m .optional) q ⌝ }
-    requires { ⌜ q .free ≡ true ⌝ }
-    requires { ⌜ Settled m d ⌝ }
-    ensures { λ r. ⌜ StepsTo m d b r ⌝ }
-{
-    let x = move_home(d, b, m.repeats, q.home);
-    flooded_free(x, m.optional, q)
 }
 
 // Steps from a place on, where no position is optional but leading ones, up to `until` or, at `stop` or
@@ -192,7 +45,7 @@ fn walk_plain(
     let mut i = s.i;
     while i < until {
         let c = looks::index(text[i]);
-        d = step_plain(d, table[c], m, q);
+        d = steps::step_plain(d, table[c], m, q);
         at += 1;
         i += 1;
         if words::reports(d, m.top) {
@@ -242,7 +95,7 @@ fn walk_over(
     let mut i = s.i;
     while i < until {
         let c = looks::index(text[i]);
-        d = step_over(d, table[c], m, q);
+        d = steps::step_over(d, table[c], m, q);
         at += 1;
         i += 1;
         if words::reports(d, m.top) {
@@ -267,16 +120,6 @@ fn walk_over(
     }
 }
 
-// Whether a step leaves the state as it is.
-fn stays_at(d: u64, b: u64, m: Masks, q: Blocks) -> bool
-    requires { ⌜ BlocksOf (m .optional) q ⌝ }
-    requires { ⌜ Settled m d ⌝ }
-    ensures { λ r. ⌜ Stays m d b r ⌝ }
-{
-    let x = move_home(d, b, m.repeats, q.home);
-    x == d
-}
-
 // The place up to which, before `until`, the state stays as it is, and reports no end.
 fn staying(table: &[u64], m: Masks, q: Blocks, d: u64, until: usize, text: &[u8], i: usize) -> usize
     requires { ⌜ BlocksOf (m .optional) q ⌝ }
@@ -293,7 +136,7 @@ fn staying(table: &[u64], m: Masks, q: Blocks, d: u64, until: usize, text: &[u8]
     let mut j = i;
     while j < until {
         let c = looks::index(text[j]);
-        if !stays_at(d, table[c], m, q) {
+        if !steps::stays_at(d, table[c], m, q) {
             return j;
         }
         j += 1;
@@ -337,7 +180,7 @@ fn walk_staying(
             };
         }
         let c = looks::index(text[j]);
-        d = step_over(d, table[c], m, q);
+        d = steps::step_over(d, table[c], m, q);
         at = here + 1;
         i = j + 1;
         if words::reports(d, m.top) {
@@ -363,7 +206,7 @@ fn walk_staying(
 }
 
 // One step by the formula, for a state made by hand.
-fn walk_one(table: &[u64], m: Masks, text: &[u8], ends: &mut [u32], s: Spot) -> Spot
+pub fn walk_one(table: &[u64], m: Masks, text: &[u8], ends: &mut [u32], s: Spot) -> Spot
     requires { ⌜ length (now table) ≡ 256 ⌝ }
     requires { ⌜ m .top < 64 ⌝ }
     requires { ⌜ Room s (length (now text)) (now text) (now ends) ⌝ }
@@ -372,7 +215,7 @@ fn walk_one(table: &[u64], m: Masks, text: &[u8], ends: &mut [u32], s: Spot) -> 
     let i = s.i;
     let n = s.n;
     let c = looks::index(text[i]);
-    let d = step(s.d, table[c], 1, m);
+    let d = steps::step(s.d, table[c], 1, m);
     let at = s.at + 1;
     let past = i + 1;
     let is_end = words::reports(d, m.top);
@@ -412,7 +255,7 @@ pub fn walk(
     requires { ⌜ Room s until (now text) (now ends) ⌝ }
     ensures { λ r. ⌜ Walked (now (table .entry)) m (now (text .entry)) (now (ends .entry)) (s .d) (s .at) (s .n) (s .i) r (now (ends .exit)) ⌝ }
 {
-    if is_settled(m, q, s.d) {
+    if steps::is_settled(m, q, s.d) {
         if q.touch == 0 {
             return walk_plain(table, m, q, home, stop, until, text, ends, s);
         }

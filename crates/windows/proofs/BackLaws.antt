@@ -8,8 +8,8 @@ use native.Mathlib.Omega.{arith}
 use lib.ListN.{length, getD, set, length-set, length-append}
 use lib.Seq.{sets, set-comm}
 use Rattle.words.specs.ForwardStep.{opening, topBit}
-use Rattle.walking.specs.declared.Masks.{Masks}
-use Rattle.walking.specs.Stepping.{stepN}
+use Rattle.steps.specs.declared.Masks.{Masks}
+use Rattle.steps.specs.Stepping.{stepN}
 use Rattle.windows.specs.Reading.{lastIf, stepAt, backN, startsBack, CountIs, WriteFine, WroteIs}
 
 -- a store after a run of stores is a store before them

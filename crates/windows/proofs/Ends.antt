@@ -22,7 +22,7 @@ use Rattle.words.specs.Masks.{Encodes}
 use Rattle.words.proofs.Digits.{none-bit}
 use Rattle.words.proofs.Bridge as Bridge
 use Rattle.words.proofs.Bridge.{Anchored, anchored-top}
-use Rattle.walking.specs.declared.Masks.{Masks}
+use Rattle.steps.specs.declared.Masks.{Masks}
 use Rattle.windows.specs.declared.End.{End}
 use Rattle.windows.specs.declared.End.the-variants.{At, Dead, Open}
 use Rattle.windows.specs.Reading.{stepAt, endedN}

@@ -17,7 +17,7 @@ use Rattle.words.specs.ForwardStep.{opening, topBit}
 use Rattle.words.specs.Masks.{Encodes}
 use Rattle.words.proofs.Bridge as Bridge
 use Rattle.words.proofs.Bridge.{Scanned}
-use Rattle.walking.specs.declared.Masks.{Masks}
+use Rattle.steps.specs.declared.Masks.{Masks}
 use Rattle.windows.specs.Reading.{lastIf, stepAt, backN, startsBack}
 use Rattle.model.proofs.Shares.{occurs-to}
 use Rattle.model.proofs.Law.{Some, represents-top}

@@ -20,7 +20,7 @@ use Rattle.words.specs.Masks.{Encodes, admitsMask}
 use Rattle.words.proofs.Digits.{none-bit}
 use Rattle.words.proofs.Bridge as Bridge
 use Rattle.words.proofs.Bridge.{Backward, backward-top}
-use Rattle.walking.specs.declared.Masks.{Masks}
+use Rattle.steps.specs.declared.Masks.{Masks}
 use Rattle.windows.specs.Reading.{every, stepAt, seenN}
 use Rattle.windows.proofs.Steps.{step-is, none-steps, unknown-steps}
 

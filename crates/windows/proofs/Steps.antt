@@ -13,8 +13,8 @@ use Rattle.words.specs.Masks.{admitsMask}
 use Rattle.words.proofs.Digits.{none-bit}
 use Rattle.words.proofs.MaskLaws.{mask-bit}
 use Rattle.words.proofs.Bridge as Bridge
-use Rattle.walking.specs.declared.Masks.{Masks}
-use Rattle.walking.specs.Stepping.{stepN}
+use Rattle.steps.specs.declared.Masks.{Masks}
+use Rattle.steps.specs.Stepping.{stepN}
 
 pub step-is : (t : List ℕ) (m : Masks) (k : Bool) (d c : ℕ) → stepN m (oneIf k) d (getD t c 0) ≡ onByte 64 (λ c. getD t c 0) (m .repeats) (m .optional) k d c
 unfolding stepN

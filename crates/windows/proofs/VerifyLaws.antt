@@ -8,8 +8,8 @@ use lib.ListN.{getD}
 use lib.Dec.{eqb}
 use borrow.Author.Tests.{eq-eqb, ne-eqb}
 use Rattle.words.specs.ForwardStep.{opening, topBit}
-use Rattle.walking.specs.declared.Masks.{Masks}
-use Rattle.walking.specs.Stepping.{stepN}
+use Rattle.steps.specs.declared.Masks.{Masks}
+use Rattle.steps.specs.Stepping.{stepN}
 use Rattle.windows.specs.declared.End.the-variants.{At, Dead, Open}
 use Rattle.windows.specs.Reading.{stepAt, endedN, EndIs}
 

@@ -11,8 +11,8 @@ use lib.Dec.{eqb}
 use borrow.Author.Tests.{eq-eqb, ne-eqb, eqb-true, not-true, not-false}
 use Rattle.model.proofs.Truth.{or-false-left, or-false-right}
 use Rattle.words.specs.ForwardStep.{topBit}
-use Rattle.walking.specs.declared.Masks.{Masks}
-use Rattle.walking.specs.Stepping.{stepN}
+use Rattle.steps.specs.declared.Masks.{Masks}
+use Rattle.steps.specs.Stepping.{stepN}
 use Rattle.windows.specs.Reading.{every, stepAt, seenN, Window, FirstIs, Looking, SeenIs, QuietIs}
 
 module _ (t : List ℕ) (m : Masks) (text : List ℕ) (w d last : ℕ) where

@@ -8,8 +8,8 @@ use lib.ListN.{length, getD}
 use lib.Seq.{sets}
 use lib.Dec.{eqb}
 use Rattle.words.specs.ForwardStep.{opening, topBit}
-use Rattle.walking.specs.declared.Masks.{Masks}
-use Rattle.walking.specs.Stepping.{stepN}
+use Rattle.steps.specs.declared.Masks.{Masks}
+use Rattle.steps.specs.Stepping.{stepN}
 use Rattle.windows.specs.declared.Seen.{Seen}
 use Rattle.windows.specs.declared.End.{End}
 use Rattle.windows.specs.declared.End.the-variants.{At, Dead, Open}

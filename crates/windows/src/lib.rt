@@ -5,7 +5,7 @@ ghost use mathlib.Core.Path.{_≡_};
 ghost use Prim.Native.Nat.{_+_, _≤_, _<_};
 ghost use lib.ListN.{length};
 ghost use Rattle.windows.specs.Reading.{Tables, Window, FirstIs, Looking, SeenIs, QuietIs, EndIs, CountIs, WriteFine, WroteIs, RestFine, WrittenIs};
-use walking::Masks;
+use steps::Masks;
 
 // What a window says: the published shift, and whether its bytes begin a string that the rule admits.
 pub struct Seen {
@@ -29,7 +29,7 @@ pub fn first_steps(reversed: &[u64], m: Masks, first: &mut [u64])
 {
     let mut c = 0;
     while c < 256 {
-        first[c] = walking::step(0xffff_ffff_ffff_ffff, reversed[c], 0, m);
+        first[c] = steps::step(0xffff_ffff_ffff_ffff, reversed[c], 0, m);
         c += 1;
     }
 }
@@ -56,7 +56,7 @@ fn read_back(
     let mut j = j;
     while 0 < j {
         let c = looks::index(text[w + j]);
-        d = walking::step(d, reversed[c], 0, m);
+        d = steps::step(d, reversed[c], 0, m);
         if d == 0 {
             return Seen {
                 shift: last,
@@ -70,7 +70,7 @@ fn read_back(
         }
     }
     let c = looks::index(text[w]);
-    d = walking::step(d, reversed[c], 0, m);
+    d = steps::step(d, reversed[c], 0, m);
     let hit = words::reports(d, m.top);
     Seen {
         shift: last,
@@ -137,7 +137,7 @@ pub fn is_quiet(
     let c = looks::index(text[w + j]);
     let b = looks::index(text[w + i]);
     let d = first[c];
-    let x = walking::step(d, reversed[b], 0, m);
+    let x = steps::step(d, reversed[b], 0, m);
     let begins = words::reports(d, m.top);
     if i == 0 {
         let hit = words::reports(x, m.top);
@@ -158,7 +158,7 @@ pub fn verify(forward: &[u64], m: Masks, text: &[u8], s: usize, stop: usize) -> 
     let mut e = s;
     while e < stop {
         let c = looks::index(text[e]);
-        d = walking::step(d, forward[c], 0, m);
+        d = steps::step(d, forward[c], 0, m);
         e += 1;
         if d == 0 {
             return End::Dead(e);
@@ -183,7 +183,7 @@ pub fn count_back(reversed: &[u64], m: Masks, text: &[u8], from: usize) -> usize
     while from < j {
         j -= 1;
         let c = looks::index(text[j]);
-        d = walking::step(d, reversed[c], 1, m);
+        d = steps::step(d, reversed[c], 1, m);
         if words::reports(d, m.top) {
             k += 1;
         }
@@ -212,7 +212,7 @@ fn write_back(
     while first < p {
         j -= 1;
         let c = looks::index(text[j]);
-        d = walking::step(d, reversed[c], 1, m);
+        d = steps::step(d, reversed[c], 1, m);
         if words::reports(d, m.top) {
             p -= 1;
             starts[p] = j as u32;

@@ -1,5 +1,5 @@
 -- `walking::walk` meets its contract. Its laws are in this crate's `proofs/`; `search LAW` finds a law's premises in `c`. Assumes nothing.
-use Rattle.walking.proofs.Steps.{settled-by}
+use Rattle.steps.proofs.Steps.{settled-by}
 use Rattle.walking.proofs.Turns.{whole-room}
 use borrow.Author.Needs.{needs}
 use Rattle.walking.proofs.walk.Statement.{statement}

@@ -7,7 +7,7 @@ use Rattle.windows.proofs.read_back.Tie as tie
 use Rattle.windows.proofs.read_back.Reads as reads
 use Rattle.windows.proofs.read_back.Lts as lts
 use Rattle.looks.proofs.index.Reads as index-reads
-use Rattle.walking.proofs.step.Reads as step-reads
+use Rattle.steps.proofs.step.Reads as step-reads
 use Rattle.words.proofs.reports.Reads as reports-reads
 
 abbrev Inv-loop : tie.InvT-loop

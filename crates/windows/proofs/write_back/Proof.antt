@@ -6,7 +6,7 @@ use Rattle.windows.proofs.write_back.Tie as tie
 use Rattle.windows.proofs.write_back.Reads as reads
 use Rattle.windows.proofs.write_back.Lts as lts
 use Rattle.looks.proofs.index.Reads as index-reads
-use Rattle.walking.proofs.step.Reads as step-reads
+use Rattle.steps.proofs.step.Reads as step-reads
 use Rattle.words.proofs.opening.Reads as opening-reads
 use Rattle.words.proofs.reports.Reads as reports-reads
 

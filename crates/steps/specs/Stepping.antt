@@ -6,7 +6,7 @@ use lib.Bits.{bitAnd}
 use lib.ListN.{getD}
 use Rattle.model.specs.Occurrence.{consIf}
 use Rattle.words.specs.ForwardStep.{advance, blockStarts, blockEnds, topBit}
-use Rattle.walking.specs.declared.Masks.{Masks}
+use Rattle.steps.specs.declared.Masks.{Masks}
 
 -- One step at a table entry b; k is what every step sets: 1 for the beginning, or 0.
 unfoldable pub stepN : Masks → (k d b : ℕ) → ℕ

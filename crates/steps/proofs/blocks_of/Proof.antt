@@ -1,8 +1,8 @@
--- `walking::blocks_of` meets its contract. Its laws are in this crate's `proofs/`; `search LAW` finds a law's premises in `c`. Assumes nothing.
-use Rattle.walking.proofs.Steps.{blocks-are}
+-- `steps::blocks_of` meets its contract. Its laws are in this crate's `proofs/`; `search LAW` finds a law's premises in `c`. Assumes nothing.
+use Rattle.steps.proofs.Steps.{blocks-are}
 use borrow.Author.Needs.{needs}
-use Rattle.walking.proofs.blocks_of.Statement.{statement}
-use Rattle.walking.proofs.blocks_of.Tie as tie
+use Rattle.steps.proofs.blocks_of.Statement.{statement}
+use Rattle.steps.proofs.blocks_of.Tie as tie
 
 opening-requires : tie.Need-opening-requires
 opening-requires c κs = search needs

@@ -1,8 +1,8 @@
--- `walking::is_settled` meets its contract. Its laws are in this crate's `proofs/`; `search LAW` finds a law's premises in `c`. Assumes nothing.
-use Rattle.walking.proofs.Steps.{home-settled, settled, unsettled}
+-- `steps::is_settled` meets its contract. Its laws are in this crate's `proofs/`; `search LAW` finds a law's premises in `c`. Assumes nothing.
+use Rattle.steps.proofs.Steps.{home-settled, settled, unsettled}
 use borrow.Author.Needs.{needs}
-use Rattle.walking.proofs.is_settled.Statement.{statement}
-use Rattle.walking.proofs.is_settled.Tie as tie
+use Rattle.steps.proofs.is_settled.Statement.{statement}
+use Rattle.steps.proofs.is_settled.Tie as tie
 
 returns : tie.Need-returns
 returns c = search unsettled

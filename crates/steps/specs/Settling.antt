@@ -4,9 +4,9 @@ use mathlib.Core.Bool.{Bool, true}
 use Prim.Native.Nat.{ℕ, _-_, _*_, _%_, _^_, _<_}
 use lib.Bits.{bitAnd, bitOr}
 use Rattle.words.specs.ForwardStep.{wrapSub, flood, blockStarts, blockEnds, opening}
-use Rattle.walking.specs.declared.Masks.{Masks}
-use Rattle.walking.specs.declared.Blocks.{Blocks}
-use Rattle.walking.specs.Stepping.{stepN}
+use Rattle.steps.specs.declared.Masks.{Masks}
+use Rattle.steps.specs.declared.Blocks.{Blocks}
+use Rattle.steps.specs.Stepping.{stepN}
 
 pub record BlocksOf (optional : ℕ) (q : Blocks) : Type 0 where
   pub home : q .home ≡ opening 64 optional

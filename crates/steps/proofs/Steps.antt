@@ -13,10 +13,10 @@ use Rattle.words.proofs.Digits.{or-bit, wrapped}
 use Rattle.words.proofs.Guarded.{flood-guarded}
 use Rattle.words.proofs.Still.{flood-none, flood-lt, move-lt, move-odd, bit-odd, odd-bit}
 use Rattle.words.proofs.Settled.{flood-again, flood-home, flood-quiet, home-in, home-lt, has-beside}
-use Rattle.walking.specs.declared.Masks.{Masks}
-use Rattle.walking.specs.declared.Blocks.{Blocks}
-use Rattle.walking.specs.Stepping.{stepN}
-use Rattle.walking.specs.Settling.{BlocksOf, Settled, SettledIs, StepsTo, Stays}
+use Rattle.steps.specs.declared.Masks.{Masks}
+use Rattle.steps.specs.declared.Blocks.{Blocks}
+use Rattle.steps.specs.Stepping.{stepN}
+use Rattle.steps.specs.Settling.{BlocksOf, Settled, SettledIs, StepsTo, Stays}
 
 -- nothing is optional: the step is the move
 pub step-none : (m : Masks) (k d b x : ℕ) → m .optional ≡ 0 → x ≡ move 64 d b (bitAnd b (m .repeats)) k → x ≡ stepN m k d b

@@ -1,11 +1,11 @@
--- `walking::step` meets its contract. Its laws are in this crate's `proofs/`; `search LAW` finds a law's premises in `c`. Assumes nothing.
-use Rattle.walking.specs.Stepping.{stepN}
-use Rattle.walking.proofs.Steps.{step-none}
+-- `steps::step` meets its contract. Its laws are in this crate's `proofs/`; `search LAW` finds a law's premises in `c`. Assumes nothing.
+use Rattle.steps.specs.Stepping.{stepN}
+use Rattle.steps.proofs.Steps.{step-none}
 use borrow.Author.Needs.{needs}
-use Rattle.walking.proofs.step.Statement.{statement}
-use Rattle.walking.proofs.step.Tie as tie
-use Rattle.walking.proofs.step.Reads as reads
-use Rattle.walking.proofs.step.Lts as lts
+use Rattle.steps.proofs.step.Statement.{statement}
+use Rattle.steps.proofs.step.Tie as tie
+use Rattle.steps.proofs.step.Reads as reads
+use Rattle.steps.proofs.step.Lts as lts
 use Rattle.words.proofs.advance.Reads as advance-reads
 use Rattle.words.proofs.block_ends.Reads as block-ends-reads
 use Rattle.words.proofs.block_starts.Reads as block-starts-reads

@@ -1,8 +1,8 @@
--- `walking::flooded` meets its contract. Its laws are in this crate's `proofs/`; `search LAW` finds a law's premises in `c`. Assumes nothing.
-use Rattle.walking.proofs.Steps.{flood-turned}
+-- `steps::flooded` meets its contract. Its laws are in this crate's `proofs/`; `search LAW` finds a law's premises in `c`. Assumes nothing.
+use Rattle.steps.proofs.Steps.{flood-turned}
 use borrow.Author.Needs.{needs}
-use Rattle.walking.proofs.flooded.Statement.{statement}
-use Rattle.walking.proofs.flooded.Tie as tie
+use Rattle.steps.proofs.flooded.Statement.{statement}
+use Rattle.steps.proofs.flooded.Tie as tie
 
 wrapping-sub-u64-requires : tie.Need-wrapping-sub-u64-requires
 wrapping-sub-u64-requires c κs = search needs

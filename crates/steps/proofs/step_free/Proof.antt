@@ -1,8 +1,8 @@
--- `walking::step_free` meets its contract. Its laws are in this crate's `proofs/`; `search LAW` finds a law's premises in `c`. Assumes nothing.
-use Rattle.walking.proofs.Steps.{has-home, step-flood, even-of}
+-- `steps::step_free` meets its contract. Its laws are in this crate's `proofs/`; `search LAW` finds a law's premises in `c`. Assumes nothing.
+use Rattle.steps.proofs.Steps.{has-home, step-flood, even-of}
 use borrow.Author.Needs.{needs}
-use Rattle.walking.proofs.step_free.Statement.{statement}
-use Rattle.walking.proofs.step_free.Tie as tie
+use Rattle.steps.proofs.step_free.Statement.{statement}
+use Rattle.steps.proofs.step_free.Tie as tie
 
 move-home-requires : tie.Need-move-home-requires
 move-home-requires c κs = search has-home

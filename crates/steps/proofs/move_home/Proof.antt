@@ -1,0 +1,12 @@
+-- `steps::move_home` meets its contract. Its laws are in this crate's `proofs/`; `search LAW` finds a law's premises in `c`. Assumes nothing.
+use Rattle.words.proofs.Settled.{move-fold}
+use Rattle.steps.proofs.move_home.Statement.{statement}
+use Rattle.steps.proofs.move_home.Tie as tie
+use Rattle.steps.proofs.move_home.Reads as reads
+use Rattle.steps.proofs.move_home.Lts as lts
+
+returns : tie.Need-returns
+returns c = search move-fold
+
+pub move-home-spec : {M : Type 1} → statement M
+move-home-spec = tie.close (tie.spec returns)

@@ -1,0 +1,16 @@
+-- `steps::step_plain` meets its contract. Its laws are in this crate's `proofs/`; `search LAW` finds a law's premises in `c`. Assumes nothing.
+use Rattle.steps.proofs.Steps.{has-home, step-plain}
+use Rattle.steps.proofs.step_plain.Statement.{statement}
+use Rattle.steps.proofs.step_plain.Tie as tie
+use Rattle.steps.proofs.step_plain.Reads as reads
+use Rattle.steps.proofs.step_plain.Lts as lts
+use Rattle.steps.proofs.move_home.Reads as move-home-reads
+
+move-home-requires : tie.Need-move-home-requires
+move-home-requires c κs = search has-home
+
+returns : tie.Need-returns
+returns c = search step-plain
+
+pub step-plain-spec : {M : Type 1} → statement M
+step-plain-spec = tie.close (tie.spec move-home-requires returns)
