@@ -1,7 +1,7 @@
 -- What a run over some decoded bytes gives: the state after them, and the ends among them, by the formula. Assumes nothing.
 use mathlib.Core.Path.{_≡_}
 use mathlib.Core.List.{List}
-use Prim.Native.Nat.{ℕ, _≤_}
+use Prim.Native.Nat.{ℕ, _≤_, _<_}
 use lib.ListN.{length}
 use lib.Seq.{sets}
 use Rattle.steps.specs.declared.Masks.{Masks}
@@ -14,3 +14,8 @@ pub record Scanned (t : List ℕ) (m : Masks) (d at : ℕ) (text ends : List ℕ
   pub count : r .count ≡ length (endsIn t m d at text)
   pub few : r .count ≤ length text
   pub list : ends′ ≡ sets ends 0 (endsIn t m d at text)
+
+-- a place past i, and not past the end
+pub record Reached (i end r : ℕ) : Type 0 where
+  pub ahead : i < r
+  pub within : r ≤ end

@@ -4,9 +4,11 @@ ghost use mathlib.Core.Path.{_≡_};
 ghost use Prim.Native.Nat.{_+_, _<_, _≤_, _^_};
 ghost use lib.ListN.{length};
 ghost use Rattle.plans.specs.Plans.{Paired, Planned};
-ghost use Rattle.walking.specs.Walking.{Passed};
-ghost use Rattle.stepping.specs.Running.{Scanned};
+ghost use Rattle.walking.specs.Walking.{Passed, Walked, Room};
+ghost use Rattle.steps.specs.Settling.{BlocksOf};
+ghost use Rattle.stepping.specs.Running.{Scanned, Reached};
 use plans::Plan;
+use steps::Blocks;
 use steps::Masks;
 use walking::Spot;
 
@@ -101,8 +103,213 @@ fn stop_at(kind: u64, i: usize, j: usize, end: usize) -> usize
     j + PASSES_PAY
 }
 
-// Steps over `text` and stores each end in `ends`, from its front; `base` bytes went before. It passes
-// over what may be passed by the plan, and walks on from there.
+// What a stretch of a run comes to: the place, and how many bytes were walked and not passed over.
+pub struct Stretch {
+    pub to: Spot,
+    pub walked: usize,
+}
+
+// A stretch of a run, up to `until` or past it: it passes over what may be passed by the plan, and walks
+// on from there.
+fn run_to(
+    table: &[u64],
+    m: Masks,
+    q: Blocks,
+    p: Plan,
+    until: usize,
+    text: &[u8],
+    ends: &mut [u32],
+    s: Spot,
+) -> Stretch
+    requires { ⌜ BlocksOf (m .optional) q ⌝ }
+    requires { ⌜ length (now table) ≡ 256 ⌝ }
+    requires { ⌜ m .top < 64 ⌝ }
+    requires { ⌜ Planned (now table) (m .repeats) (m .optional) (m .top) p ⌝ }
+    requires { ⌜ Room s until (now text) (now ends) ⌝ }
+    ensures { λ r. ⌜ Walked (now (table .entry)) m (now (text .entry)) (now (ends .entry)) (s .d) (s .at) (s .n) (s .i) (r .to) (now (ends .exit)) ⌝ }
+{
+    let mut d = s.d;
+    let mut at = s.at;
+    let mut n = s.n;
+    let mut i = s.i;
+    let mut walked = 0;
+    while i < until {
+        let j = pass(table, m, p, d, text, i);
+        let gone = (j - i) as u32;
+        let here = at + gone;
+        if until <= j {
+            return Stretch {
+                to: Spot {
+                    d: d,
+                    at: here,
+                    n: n,
+                    i: j,
+                },
+                walked: walked,
+            };
+        }
+        let stop = stop_at(p.kind, i, j, until);
+        let r = walking::walk(
+            table,
+            m,
+            q,
+            p.home,
+            stop,
+            until,
+            text,
+            ends,
+            Spot {
+                d: d,
+                at: here,
+                n: n,
+                i: j,
+            },
+        );
+        walked = std::num::wrapping_add_usize(walked, r.i - j);
+        d = r.d;
+        at = r.at;
+        n = r.n;
+        i = r.i;
+    }
+    Stretch {
+        to: Spot {
+            d: d,
+            at: at,
+            n: n,
+            i: i,
+        },
+        walked: walked,
+    }
+}
+
+// A run goes on by a short stretch, from which it tells how to walk, and then a long one; where nothing
+// but leading positions is optional there is one way to walk, and the stretch has no end.
+const SHORT_STRETCH: usize = 256;
+
+const LONG_STRETCH: usize = 3840;
+
+fn reach(touch: u64, far: usize, i: usize, end: usize) -> usize
+    requires { ⌜ 0 < far ⌝ }
+    requires { ⌜ i < end ⌝ }
+    ensures { λ r. ⌜ Reached i end r ⌝ }
+{
+    if touch == 0 {
+        return end;
+    }
+    if end - i < far {
+        return end;
+    }
+    i + far
+}
+
+// How to go on: evenly, without a test for floods; and whether ends stand close.
+pub struct Pace {
+    pub even: bool,
+    pub many: bool,
+}
+
+// Whether to go on evenly after a stretch of so many bytes, with so many ends, of which some were walked.
+fn is_uneven(
+    table: &[u64],
+    m: Masks,
+    q: Blocks,
+    text: &[u8],
+    bytes: usize,
+    found: usize,
+    first: Stretch,
+) -> bool
+    requires { ⌜ BlocksOf (m .optional) q ⌝ }
+    requires { ⌜ length (now table) ≡ 256 ⌝ }
+    requires { ⌜ first .to .i ≤ length (now text) ⌝ }
+{
+    if q.touch == 0 {
+        return false;
+    }
+    if bytes / 8 < found {
+        return true;
+    }
+    if q.stays {
+        return false;
+    }
+    if first.walked < bytes / 2 {
+        return false;
+    }
+    if q.free {
+        return pacing::is_restless(table, m, q, text, first.to);
+    }
+    false
+}
+
+// How to go on after a stretch from s. Only speed hangs on it.
+fn pace_of(table: &[u64], m: Masks, q: Blocks, text: &[u8], s: Spot, first: Stretch) -> Pace
+    requires { ⌜ BlocksOf (m .optional) q ⌝ }
+    requires { ⌜ length (now table) ≡ 256 ⌝ }
+    requires { ⌜ first .to .i ≤ length (now text) ⌝ }
+{
+    let bytes = std::num::wrapping_sub_usize(first.to.i, s.i);
+    let found = std::num::wrapping_sub_usize(first.to.n, s.n);
+    let even = is_uneven(table, m, q, text, bytes, found, first);
+    Pace {
+        even: even,
+        many: bytes / 32 < found,
+    }
+}
+
+// A long stretch, evenly if that is asked for and the blocks let it, or by the plan.
+fn onward(
+    table: &[u64],
+    m: Masks,
+    q: Blocks,
+    p: Plan,
+    pace: Pace,
+    text: &[u8],
+    ends: &mut [u32],
+    s: Spot,
+) -> Spot
+    requires { ⌜ BlocksOf (m .optional) q ⌝ }
+    requires { ⌜ length (now table) ≡ 256 ⌝ }
+    requires { ⌜ m .top < 64 ⌝ }
+    requires { ⌜ Planned (now table) (m .repeats) (m .optional) (m .top) p ⌝ }
+    requires { ⌜ Room s (length (now text)) (now text) (now ends) ⌝ }
+    ensures { λ r. ⌜ Walked (now (table .entry)) m (now (text .entry)) (now (ends .entry)) (s .d) (s .at) (s .n) (s .i) r (now (ends .exit)) ⌝ }
+{
+    let far = reach(q.touch, LONG_STRETCH, s.i, text.len());
+    if pace.even {
+        if q.free {
+            return pacing::walk_evenly(table, m, q, pace.many, far, text, ends, s);
+        }
+    }
+    let r = run_to(table, m, q, p, far, text, ends, s);
+    r.to
+}
+
+// A short stretch, and then a long one as the first suggests.
+fn stride(
+    table: &[u64],
+    m: Masks,
+    q: Blocks,
+    p: Plan,
+    text: &[u8],
+    ends: &mut [u32],
+    s: Spot,
+) -> Spot
+    requires { ⌜ BlocksOf (m .optional) q ⌝ }
+    requires { ⌜ length (now table) ≡ 256 ⌝ }
+    requires { ⌜ m .top < 64 ⌝ }
+    requires { ⌜ Planned (now table) (m .repeats) (m .optional) (m .top) p ⌝ }
+    requires { ⌜ Room s (length (now text)) (now text) (now ends) ⌝ }
+    ensures { λ r. ⌜ Walked (now (table .entry)) m (now (text .entry)) (now (ends .entry)) (s .d) (s .at) (s .n) (s .i) r (now (ends .exit)) ⌝ }
+{
+    let near = reach(q.touch, SHORT_STRETCH, s.i, text.len());
+    let first = run_to(table, m, q, p, near, text, ends, s);
+    if first.to.i < text.len() {
+        let pace = pace_of(table, m, q, text, s, first);
+        return onward(table, m, q, p, pace, text, ends, first.to);
+    }
+    first.to
+}
+
+// Steps over `text` and stores each end in `ends`, from its front; `base` bytes went before.
 pub fn run(
     table: &[u64],
     m: Masks,
@@ -125,27 +332,18 @@ pub fn run(
     let mut n = 0;
     let mut i = 0;
     while i < text.len() {
-        let j = pass(table, m, p, d, text, i);
-        if j == text.len() {
-            return Ran { d: d, count: n };
-        }
-        let stop = stop_at(p.kind, i, j, text.len());
-        let gone = (j - i) as u32;
-        let here = at + gone;
-        let r = walking::walk(
+        let r = stride(
             table,
             m,
             q,
-            p.home,
-            stop,
-            text.len(),
+            p,
             text,
             ends,
             Spot {
                 d: d,
-                at: here,
+                at: at,
                 n: n,
-                i: j,
+                i: i,
             },
         );
         d = r.d;

@@ -1,0 +1,196 @@
+// Walks for texts on which it cannot be foreseen whether the next byte floods, or ends an occurrence:
+// they flood at each byte, as the formula does, and one of them stores ends without a branch. Both promise what
+// every walk promises. A look ahead tells such texts; only speed hangs on what it says.
+ghost use mathlib.Core.Path.{_≡_};
+ghost use mathlib.Core.Bool.{true};
+ghost use Prim.Native.Nat.{_<_, _≤_};
+ghost use lib.Dec.{eqb};
+ghost use lib.ListN.{length};
+ghost use Rattle.walking.specs.Walking.{Walked, Room};
+ghost use Rattle.steps.specs.Settling.{BlocksOf, Settled};
+ghost use Rattle.pacing.specs.Pacing.{Reported, picked};
+use steps::Blocks;
+use steps::Masks;
+use walking::Spot;
+
+// Steps up to `until`, and floods at each byte.
+fn walk_flooding(
+    table: &[u64],
+    m: Masks,
+    q: Blocks,
+    until: usize,
+    text: &[u8],
+    ends: &mut [u32],
+    s: Spot,
+) -> Spot
+    requires { ⌜ BlocksOf (m .optional) q ⌝ }
+    requires { ⌜ q .free ≡ true ⌝ }
+    requires { ⌜ length (now table) ≡ 256 ⌝ }
+    requires { ⌜ m .top < 64 ⌝ }
+    requires { ⌜ Room s until (now text) (now ends) ⌝ }
+    requires { ⌜ Settled m (s .d) ⌝ }
+    ensures { λ r. ⌜ Walked (now (table .entry)) m (now (text .entry)) (now (ends .entry)) (s .d) (s .at) (s .n) (s .i) r (now (ends .exit)) ⌝ }
+{
+    let mut d = s.d;
+    let mut at = s.at;
+    let mut n = s.n;
+    let mut i = s.i;
+    while i < until {
+        let c = looks::index(text[i]);
+        d = steps::step_free(d, table[c], m, q);
+        at += 1;
+        i += 1;
+        if words::reports(d, m.top) {
+            ends[n] = at;
+            n += 1;
+        }
+    }
+    Spot {
+        d: d,
+        at: at,
+        n: n,
+        i: i,
+    }
+}
+
+// Whether the top position reports an end, as a number.
+fn report_bit(d: u64, top: u64) -> u64
+    requires { ⌜ top < 64 ⌝ }
+    ensures { λ r. ⌜ Reported top d r ⌝ }
+{
+    (d >> top) % 2
+}
+
+// `at` where hit is 1, `old` where it is 0, without a branch.
+fn pick(hit: u64, at: u32, old: u32) -> u32
+    requires { ⌜ hit < 2 ⌝ }
+    ensures { λ r. ⌜ r ≡ picked (eqb hit 1) at old ⌝ }
+{
+    let mask = std::num::wrapping_sub_u32(0, hit as u32);
+    old ^ ((old ^ at) & mask)
+}
+
+// The same where ends stand close: each byte writes an entry, the end or what stood there.
+fn walk_dense(
+    table: &[u64],
+    m: Masks,
+    q: Blocks,
+    until: usize,
+    text: &[u8],
+    ends: &mut [u32],
+    s: Spot,
+) -> Spot
+    requires { ⌜ BlocksOf (m .optional) q ⌝ }
+    requires { ⌜ q .free ≡ true ⌝ }
+    requires { ⌜ length (now table) ≡ 256 ⌝ }
+    requires { ⌜ m .top < 64 ⌝ }
+    requires { ⌜ Room s until (now text) (now ends) ⌝ }
+    requires { ⌜ Settled m (s .d) ⌝ }
+    ensures { λ r. ⌜ Walked (now (table .entry)) m (now (text .entry)) (now (ends .entry)) (s .d) (s .at) (s .n) (s .i) r (now (ends .exit)) ⌝ }
+{
+    let mut d = s.d;
+    let mut at = s.at;
+    let mut n = s.n;
+    let mut i = s.i;
+    while i < until {
+        let c = looks::index(text[i]);
+        d = steps::step_free(d, table[c], m, q);
+        at += 1;
+        i += 1;
+        let hit = report_bit(d, m.top);
+        ends[n] = pick(hit, at, ends[n]);
+        n += hit as usize;
+    }
+    Spot {
+        d: d,
+        at: at,
+        n: n,
+        i: i,
+    }
+}
+
+// Walks without a test for floods: at least one byte, and only one where the state is not as a step leaves it.
+pub fn walk_evenly(
+    table: &[u64],
+    m: Masks,
+    q: Blocks,
+    many: bool,
+    until: usize,
+    text: &[u8],
+    ends: &mut [u32],
+    s: Spot,
+) -> Spot
+    requires { ⌜ BlocksOf (m .optional) q ⌝ }
+    requires { ⌜ q .free ≡ true ⌝ }
+    requires { ⌜ length (now table) ≡ 256 ⌝ }
+    requires { ⌜ m .top < 64 ⌝ }
+    requires { ⌜ Room s until (now text) (now ends) ⌝ }
+    ensures { λ r. ⌜ Walked (now (table .entry)) m (now (text .entry)) (now (ends .entry)) (s .d) (s .at) (s .n) (s .i) r (now (ends .exit)) ⌝ }
+{
+    if steps::is_settled(m, q, s.d) {
+        if many {
+            return walk_dense(table, m, q, until, text, ends, s);
+        }
+        return walk_flooding(table, m, q, until, text, ends, s);
+    }
+    walking::walk_one(table, m, text, ends, s)
+}
+
+// How many bytes a look ahead takes, how many of them must flood, or how often must flooding begin or
+// cease among them, so that a walk with a test for it does not pay.
+const AHEAD: usize = 32;
+
+const FLOODS: u64 = 30;
+
+const CHANGES: u64 = 5;
+
+fn one_if_any(x: u64) -> u64 {
+    if x == 0 {
+        return 0;
+    }
+    1
+}
+
+// Whether the bytes from i on flood nearly all, or now and then. It takes no branch on what it counts.
+fn flickers(table: &[u64], m: Masks, q: Blocks, d: u64, until: usize, text: &[u8], i: usize) -> bool
+    requires { ⌜ BlocksOf (m .optional) q ⌝ }
+    requires { ⌜ q .free ≡ true ⌝ }
+    requires { ⌜ length (now table) ≡ 256 ⌝ }
+    requires { ⌜ Settled m d ⌝ }
+    requires { ⌜ until ≤ length (now text) ⌝ }
+{
+    let mut d = d;
+    let mut i = i;
+    let mut floods = 0;
+    let mut changes = 0;
+    let mut was = 0;
+    while i < until {
+        let c = looks::index(text[i]);
+        d = steps::step_free(d, table[c], m, q);
+        i += 1;
+        let is = one_if_any(d & q.touch);
+        floods = std::num::wrapping_add_u64(floods, is);
+        changes = std::num::wrapping_add_u64(changes, is ^ was);
+        was = is;
+    }
+    if floods >= FLOODS {
+        return true;
+    }
+    changes >= CHANGES
+}
+
+// Whether the text from a place on is such that a walk with a test for floods does not pay.
+pub fn is_restless(table: &[u64], m: Masks, q: Blocks, text: &[u8], s: Spot) -> bool
+    requires { ⌜ BlocksOf (m .optional) q ⌝ }
+    requires { ⌜ q .free ≡ true ⌝ }
+    requires { ⌜ length (now table) ≡ 256 ⌝ }
+    requires { ⌜ s .i ≤ length (now text) ⌝ }
+{
+    if text.len() - s.i < AHEAD {
+        return false;
+    }
+    if steps::is_settled(m, q, s.d) {
+        return flickers(table, m, q, s.d, s.i + AHEAD, text, s.i);
+    }
+    false
+}
