@@ -231,7 +231,7 @@ fn is_uneven(
     if q.stays {
         return false;
     }
-    if first.walked < bytes / 2 {
+    if first.walked < bytes / 4 * 3 {
         return false;
     }
     if q.free {
