@@ -136,8 +136,8 @@ pub fn walk_evenly(
     walking::walk_one(table, m, text, ends, s)
 }
 
-// How many bytes a look ahead takes, how many of them must flood, or how often must flooding begin or
-// cease among them, so that a walk with a test for it does not pay.
+// How many bytes a look ahead takes; and of how many floods, or changes between flooding and not, a walk
+// with a test for them does not pay.
 const AHEAD: usize = 32;
 
 const FLOODS: u64 = 30;
@@ -179,18 +179,18 @@ fn flickers(table: &[u64], m: Masks, q: Blocks, d: u64, until: usize, text: &[u8
     changes >= CHANGES
 }
 
-// Whether the text from a place on is such that a walk with a test for floods does not pay.
-pub fn is_restless(table: &[u64], m: Masks, q: Blocks, text: &[u8], s: Spot) -> bool
+// Whether the text from i on is such that a walk with a test for floods does not pay.
+pub fn is_restless(table: &[u64], m: Masks, q: Blocks, d: u64, text: &[u8], i: usize) -> bool
     requires { ⌜ BlocksOf (m .optional) q ⌝ }
     requires { ⌜ q .free ≡ true ⌝ }
     requires { ⌜ length (now table) ≡ 256 ⌝ }
-    requires { ⌜ s .i ≤ length (now text) ⌝ }
+    requires { ⌜ i ≤ length (now text) ⌝ }
 {
-    if text.len() - s.i < AHEAD {
+    if text.len() - i < AHEAD {
         return false;
     }
-    if steps::is_settled(m, q, s.d) {
-        return flickers(table, m, q, s.d, s.i + AHEAD, text, s.i);
+    if steps::is_settled(m, q, d) {
+        return flickers(table, m, q, d, i + AHEAD, text, i);
     }
     false
 }

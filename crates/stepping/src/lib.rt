@@ -235,7 +235,7 @@ fn is_uneven(
         return false;
     }
     if q.free {
-        return pacing::is_restless(table, m, q, text, first.to);
+        return pacing::is_restless(table, m, q, first.to.d, text, first.to.i);
     }
     false
 }
