@@ -13,7 +13,7 @@ use steps::Blocks;
 use steps::Masks;
 use walking::Spot;
 
-// Steps up to `until`, and floods at each byte.
+// Steps up to `until`, and floods at each byte, where the blocks are free.
 fn walk_flooding(
     table: &[u64],
     m: Masks,
@@ -53,6 +53,45 @@ fn walk_flooding(
     }
 }
 
+// The same for any blocks.
+fn walk_tied(
+    table: &[u64],
+    m: Masks,
+    q: Blocks,
+    until: usize,
+    text: &[u8],
+    ends: &mut [u32],
+    s: Spot,
+) -> Spot
+    requires { ⌜ BlocksOf (m .optional) q ⌝ }
+    requires { ⌜ length (now table) ≡ 256 ⌝ }
+    requires { ⌜ m .top < 64 ⌝ }
+    requires { ⌜ Room s until (now text) (now ends) ⌝ }
+    requires { ⌜ Settled m (s .d) ⌝ }
+    ensures { λ r. ⌜ Walked (now (table .entry)) m (now (text .entry)) (now (ends .entry)) (s .d) (s .at) (s .n) (s .i) r (now (ends .exit)) ⌝ }
+{
+    let mut d = s.d;
+    let mut at = s.at;
+    let mut n = s.n;
+    let mut i = s.i;
+    while i < until {
+        let c = looks::index(text[i]);
+        d = steps::step_flooding(d, table[c], m, q);
+        at += 1;
+        i += 1;
+        if words::reports(d, m.top) {
+            ends[n] = at;
+            n += 1;
+        }
+    }
+    Spot {
+        d: d,
+        at: at,
+        n: n,
+        i: i,
+    }
+}
+
 // Whether the top position reports an end, as a number.
 fn report_bit(d: u64, top: u64) -> u64
     requires { ⌜ top < 64 ⌝ }
@@ -70,7 +109,7 @@ fn pick(hit: u64, at: u32, old: u32) -> u32
     old ^ ((old ^ at) & mask)
 }
 
-// The same where ends stand close: each byte writes an entry, the end or what stood there.
+// The same where the blocks are free and ends stand close: each byte writes an entry, the end or what stood there.
 fn walk_dense(
     table: &[u64],
     m: Masks,
@@ -121,23 +160,26 @@ pub fn walk_evenly(
     s: Spot,
 ) -> Spot
     requires { ⌜ BlocksOf (m .optional) q ⌝ }
-    requires { ⌜ q .free ≡ true ⌝ }
     requires { ⌜ length (now table) ≡ 256 ⌝ }
     requires { ⌜ m .top < 64 ⌝ }
     requires { ⌜ Room s until (now text) (now ends) ⌝ }
     ensures { λ r. ⌜ Walked (now (table .entry)) m (now (text .entry)) (now (ends .entry)) (s .d) (s .at) (s .n) (s .i) r (now (ends .exit)) ⌝ }
 {
     if steps::is_settled(m, q, s.d) {
-        if many {
-            return walk_dense(table, m, q, until, text, ends, s);
+        if q.free {
+            if many {
+                return walk_dense(table, m, q, until, text, ends, s);
+            }
+            return walk_flooding(table, m, q, until, text, ends, s);
         }
-        return walk_flooding(table, m, q, until, text, ends, s);
+        return walk_tied(table, m, q, until, text, ends, s);
     }
     walking::walk_one(table, m, text, ends, s)
 }
 
 // How many bytes a look ahead takes; and of how many floods, or changes between flooding and not, a walk
-// with a test for them does not pay.
+// with a test for them does not pay. Many floods count where the blocks are free alone: else a flood is
+// no cheaper without the test.
 const AHEAD: usize = 32;
 
 const FLOODS: u64 = 30;
@@ -154,7 +196,6 @@ fn one_if_any(x: u64) -> u64 {
 // Whether the bytes from i on flood nearly all, or now and then. It takes no branch on what it counts.
 fn flickers(table: &[u64], m: Masks, q: Blocks, d: u64, until: usize, text: &[u8], i: usize) -> bool
     requires { ⌜ BlocksOf (m .optional) q ⌝ }
-    requires { ⌜ q .free ≡ true ⌝ }
     requires { ⌜ length (now table) ≡ 256 ⌝ }
     requires { ⌜ Settled m d ⌝ }
     requires { ⌜ until ≤ length (now text) ⌝ }
@@ -166,23 +207,25 @@ fn flickers(table: &[u64], m: Masks, q: Blocks, d: u64, until: usize, text: &[u8
     let mut was = 0;
     while i < until {
         let c = looks::index(text[i]);
-        d = steps::step_free(d, table[c], m, q);
+        d = steps::step_flooding(d, table[c], m, q);
         i += 1;
         let is = one_if_any(d & q.touch);
         floods = std::num::wrapping_add_u64(floods, is);
         changes = std::num::wrapping_add_u64(changes, is ^ was);
         was = is;
     }
-    if floods >= FLOODS {
+    if changes >= CHANGES {
         return true;
     }
-    changes >= CHANGES
+    if q.free {
+        return floods >= FLOODS;
+    }
+    false
 }
 
 // Whether the text from i on is such that a walk with a test for floods does not pay.
 pub fn is_restless(table: &[u64], m: Masks, q: Blocks, d: u64, text: &[u8], i: usize) -> bool
     requires { ⌜ BlocksOf (m .optional) q ⌝ }
-    requires { ⌜ q .free ≡ true ⌝ }
     requires { ⌜ length (now table) ≡ 256 ⌝ }
     requires { ⌜ i ≤ length (now text) ⌝ }
 {

@@ -234,10 +234,7 @@ fn is_uneven(
     if first.walked < bytes / 4 * 3 {
         return false;
     }
-    if q.free {
-        return pacing::is_restless(table, m, q, first.to.d, text, first.to.i);
-    }
-    false
+    pacing::is_restless(table, m, q, first.to.d, text, first.to.i)
 }
 
 // How to go on after a stretch from s. Only speed hangs on it.
@@ -255,7 +252,7 @@ fn pace_of(table: &[u64], m: Masks, q: Blocks, text: &[u8], s: Spot, first: Stre
     }
 }
 
-// A long stretch, evenly if that is asked for and the blocks let it, or by the plan.
+// A long stretch, evenly if that is asked for, or by the plan.
 fn onward(
     table: &[u64],
     m: Masks,
@@ -275,9 +272,7 @@ fn onward(
 {
     let far = reach(q.touch, LONG_STRETCH, s.i, text.len());
     if pace.even {
-        if q.free {
-            return pacing::walk_evenly(table, m, q, pace.many, far, text, ends, s);
-        }
+        return pacing::walk_evenly(table, m, q, pace.many, far, text, ends, s);
     }
     let r = run_to(table, m, q, p, far, text, ends, s);
     r.to

@@ -143,7 +143,17 @@ pub fn step_over(d: u64, b: u64, m: Masks, q: Blocks) -> u64
     flooded(x, m.optional, q)
 }
 
-// One step that floods in any case, where the blocks are free.
+// One step that floods in any case.
+pub fn step_flooding(d: u64, b: u64, m: Masks, q: Blocks) -> u64
+    requires { ⌜ BlocksOf (m .optional) q ⌝ }
+    requires { ⌜ Settled m d ⌝ }
+    ensures { λ r. ⌜ StepsTo m d b r ⌝ }
+{
+    let x = move_home(d, b, m.repeats, q.home);
+    flooded(x, m.optional, q)
+}
+
+// The same where the blocks are free.
 pub fn step_free(d: u64, b: u64, m: Masks, q: Blocks) -> u64
     requires { ⌜ BlocksOf (m .optional) q ⌝ }
     requires { ⌜ q .free ≡ true ⌝ }

@@ -21,14 +21,14 @@ shared-slice-read-index c = search needs
 index-requires : tie.Need-index-requires Inv-loop μ-loop
 index-requires c κs = search needs
 
-mul-step-free : tie.Need-mul-step-free Inv-loop μ-loop
-mul-step-free c = search needs
+mul-step-flooding : tie.Need-mul-step-flooding Inv-loop μ-loop
+mul-step-flooding c = search needs
 
-shared-slice-read-step-free : tie.Need-shared-slice-read-step-free Inv-loop μ-loop
-shared-slice-read-step-free c = search needs
+shared-slice-read-step-flooding : tie.Need-shared-slice-read-step-flooding Inv-loop μ-loop
+shared-slice-read-step-flooding c = search needs
 
-step-free-requires : tie.Need-step-free-requires Inv-loop μ-loop
-step-free-requires c κs = search needs
+step-flooding-requires : tie.Need-step-flooding-requires Inv-loop μ-loop
+step-flooding-requires c κs = search needs
 
 add-i : tie.Need-add-i Inv-loop μ-loop
 add-i c = search needs
@@ -54,6 +54,9 @@ returns c = search needs
 returns-2 : tie.Need-returns-2 Inv-loop μ-loop
 returns-2 c = search needs
 
+returns-3 : tie.Need-returns-3 Inv-loop μ-loop
+returns-3 c = search needs
+
 pub flickers-spec : {M : Type 1} → statement M
 flickers-spec =
     tie.close
@@ -63,9 +66,9 @@ flickers-spec =
     loop-holds
     shared-slice-read-index
     index-requires
-    mul-step-free
-    shared-slice-read-step-free
-    step-free-requires
+    mul-step-flooding
+    shared-slice-read-step-flooding
+    step-flooding-requires
     add-i
     one-if-any-requires
     wrapping-add-u64-requires
@@ -73,4 +76,5 @@ flickers-spec =
     loop-less
     loop-again
     returns
-    returns-2)
+    returns-2
+    returns-3)

@@ -17,7 +17,7 @@ add-flickers : tie.Need-add-flickers
 add-flickers c = search needs
 
 flickers-requires : tie.Need-flickers-requires
-flickers-requires c κs = (search needs, (search needs, (search needs, (search settled-by, search needs))))
+flickers-requires c κs = (search needs, (search needs, (search settled-by, search needs)))
 
 returns-2 : tie.Need-returns-2
 returns-2 c = search needs

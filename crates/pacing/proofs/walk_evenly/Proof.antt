@@ -26,14 +26,23 @@ same-length-2 c = search needs
 returns-2 : tie.Need-returns-2
 returns-2 c = search needs
 
-walk-one-requires : tie.Need-walk-one-requires
-walk-one-requires c κs = (search needs, (search needs, search whole-room))
+walk-tied-requires : tie.Need-walk-tied-requires
+walk-tied-requires c κs = (search needs, (search needs, (search needs, (search needs, search settled-by))))
 
 same-length-3 : tie.Need-same-length-3
 same-length-3 c = search needs
 
 returns-3 : tie.Need-returns-3
 returns-3 c = search needs
+
+walk-one-requires : tie.Need-walk-one-requires
+walk-one-requires c κs = (search needs, (search needs, search whole-room))
+
+same-length-4 : tie.Need-same-length-4
+same-length-4 c = search needs
+
+returns-4 : tie.Need-returns-4
+returns-4 c = search needs
 
 pub walk-evenly-spec : {M : Type 1} → statement M
 walk-evenly-spec =
@@ -46,6 +55,9 @@ walk-evenly-spec =
     walk-flooding-requires
     same-length-2
     returns-2
-    walk-one-requires
+    walk-tied-requires
     same-length-3
-    returns-3)
+    returns-3
+    walk-one-requires
+    same-length-4
+    returns-4)

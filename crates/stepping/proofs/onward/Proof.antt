@@ -8,7 +8,7 @@ reach-requires : tie.Need-reach-requires
 reach-requires c κs = search needs
 
 walk-evenly-requires : tie.Need-walk-evenly-requires
-walk-evenly-requires c κs = (search needs, (search needs, (search needs, (search needs, search reach-room))))
+walk-evenly-requires c κs = (search needs, (search needs, (search needs, search reach-room)))
 
 same-length : tie.Need-same-length
 same-length c = search needs
