@@ -178,13 +178,14 @@ pub fn walk_evenly(
 }
 
 // How many bytes a look ahead takes; and of how many floods, or changes between flooding and not, a walk
-// with a test for them does not pay. Many floods count where the blocks are free alone: else a flood is
-// no cheaper without the test.
+// with a test for them does not pay. Where the blocks are not free a flood costs more: then it takes more changes.
 const AHEAD: usize = 32;
 
 const FLOODS: u64 = 30;
 
 const CHANGES: u64 = 5;
+
+const MORE_CHANGES: u64 = 8;
 
 fn one_if_any(x: u64) -> u64 {
     if x == 0 {
@@ -214,13 +215,13 @@ fn flickers(table: &[u64], m: Masks, q: Blocks, d: u64, until: usize, text: &[u8
         changes = std::num::wrapping_add_u64(changes, is ^ was);
         was = is;
     }
-    if changes >= CHANGES {
-        return true;
-    }
     if q.free {
-        return floods >= FLOODS;
+        if floods >= FLOODS {
+            return true;
+        }
+        return changes >= CHANGES;
     }
-    false
+    changes >= MORE_CHANGES
 }
 
 // Whether the text from i on is such that a walk with a test for floods does not pay.
