@@ -49,7 +49,7 @@ int same(tally a, tally b);
 /* rules.c */
 enum { RULES = 8 };
 extern const rule rules[RULES];
-extern const rule plus_rule, stuck_rule, absent_rule;
+extern const rule plus_rule, stuck_rule, absent_rule, near_blocks_rule;
 
 /* texts.c: each text comes from a seed, and is the same in every run */
 bytes plan_text(size_t length, int with_ampersands);

@@ -19,3 +19,6 @@ const rule rules[RULES] = {
 const rule plus_rule = {"`Row A\\+B [0-9]+`", "Row A\\+B [0-9]+", "Row A\\+B [0-9]+", 0, 0};
 const rule stuck_rule = {"`[ab]+z`", "[ab]+z", "[ab]+z", 0, 0};
 const rule absent_rule = {"`Row .*#`", "Row .*#", "Row .*#", 0, 0};
+
+/* Two blocks of optional positions, one position apart. */
+const rule near_blocks_rule = {"`[0-9]+[.,]?[0-9] ?E?U?R`", "[0-9]+[.,]?[0-9] ?E?U?R", "[0-9]+[.,]?[0-9] ?E?U?R", 0, 0};

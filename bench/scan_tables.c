@@ -104,13 +104,18 @@ static void repeated_rows(const char *shown, const char *what, size_t length, co
     free(text.at);
 }
 
+static void own_letter_row(const rule *r, size_t length)
+{
+    bytes text = own_letters(r, length);
+    hostile_row("the rule's letters, random", r, text);
+    free(text.at);
+}
+
 static void own_letter_rows(size_t length)
 {
-    for (int i = 0; i < RULES; i++) {
-        bytes text = own_letters(&rules[i], length);
-        hostile_row("the rule's letters, random", &rules[i], text);
-        free(text.at);
-    }
+    for (int i = 0; i < RULES; i++)
+        own_letter_row(&rules[i], length);
+    own_letter_row(&near_blocks_rule, length);
 }
 
 static void hostile_table(const texts *t)
