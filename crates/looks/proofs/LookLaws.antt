@@ -3,14 +3,14 @@ use mathlib.Core.Path.{_≡_, sym, ap, _∙_}
 use Prim.Native.Nat.{ℕ, _+_, _-_, _≤_, _<_}
 use native.Mathlib.Omega.{arith}
 use native.Mathlib.Decide.{decLt}
-use mathlib.Core.Bool.{Bool, false, not, _&&_, _||_}
+use mathlib.Core.Bool.{Bool, false, not, _||_}
 use mathlib.Core.List.{List}
 use lib.ListN.{getD}
 use lib.Bits.{bitAnd}
-use lib.Dec.{eqb, leb}
+use lib.Dec.{eqb}
 use borrow.Author.Tests.{eq-eqb, ne-eqb}
 use Rattle.model.proofs.Truth.{or-false-left, or-false-right}
-use Rattle.looks.specs.Looks.{Looked, Missed, Placed, LookAt, meets, leaves, between, same, pairAt}
+use Rattle.looks.specs.Looks.{Looked, Missed, Placed, LookAt, meets, same}
 
 -- a look so far: j places of k
 pub record Looking (f : ℕ → Bool) (i k : ℕ) (z : Bool) (j : ℕ) : Type 0 where
@@ -109,41 +109,16 @@ near-over f i b j h g = record { fore = omega arith; within = omega (arith, g .n
 
 -- ---- the same, each at its own test: `search` finds no test under an application, so it is written out here
 
-pub between-on : (text : List ℕ) (lo hi i k : ℕ) (z : Bool) (j : ℕ) → j < k → Looking (between text lo hi) i k z j
-    → Looking (between text lo hi) i k (z || (leb lo (getD text (i + j) 0) && leb (getD text (i + j) 0) hi)) (j + 1)
-between-on text lo hi = look-on (between text lo hi)
-
 pub same-near : (text : List ℕ) (x i b j k v b′ : ℕ) → k ≡ j → j < 64 → Nearest (same text x) i b j → Placed (eqb (getD text (i + k) 0) x) j v → b′ ≤ b → b′ ≤ v
     → Nearest (same text x) i b′ (j + 1)
 same-near text x i b j k v b′ e h g = near-on (same text x) i b j (same text x (i + k)) v b′ h g (ap (λ (k : ℕ). same text x (i + k)) e)
 
-pub between-near : (text : List ℕ) (lo hi i b j k v b′ : ℕ) → k ≡ j → j < 64 → Nearest (between text lo hi) i b j
-    → Placed (leb lo (getD text (i + k) 0) && leb (getD text (i + k) 0) hi) j v → b′ ≤ b → b′ ≤ v → Nearest (between text lo hi) i b′ (j + 1)
-between-near text lo hi i b j k v b′ e h g = near-on (between text lo hi) i b j (between text lo hi (i + k)) v b′ h g (ap (λ (k : ℕ). between text lo hi (i + k)) e)
-
-pub pair-near : (text : List ℕ) (a c x y i b j k : ℕ) (hit : Bool) (v b′ : ℕ) → k ≡ j → j < 64 → hit ≡ pairAt text a c x y (i + k) → Nearest (pairAt text a c x y) i b j → Placed hit j v
-    → b′ ≤ b → b′ ≤ v → Nearest (pairAt text a c x y) i b′ (j + 1)
-pair-near text a c x y i b j k hit v b′ e h q g = near-on (pairAt text a c x y) i b j hit v b′ h g (q ∙ ap (λ (k : ℕ). pairAt text a c x y (i + k)) e)
-
 pub same-one : (text : List ℕ) (x i₀ end i : ℕ) → i < end → (getD text i 0 ≡ x → ⊥) → Missed (same text x) i₀ end i → Missed (same text x) i₀ end (i + 1)
 same-one text x i₀ end i h e g = miss-one (same text x) i₀ end i g h (ne-eqb (getD text i 0) x e)
-
-pub between-one : (text : List ℕ) (lo hi i₀ end i : ℕ) → i < end → (leb lo (getD text i 0) && leb (getD text i 0) hi) ≡ false
-    → Missed (between text lo hi) i₀ end i → Missed (between text lo hi) i₀ end (i + 1)
-between-one text lo hi i₀ end i h e g = miss-one (between text lo hi) i₀ end i g h e
 
 pub same-on : (text : List ℕ) (x i k : ℕ) (z : Bool) (j : ℕ) → j < k → Looking (same text x) i k z j
     → Looking (same text x) i k (z || eqb (getD text (i + j) 0) x) (j + 1)
 same-on text x = look-on (same text x)
-
-pub leaves-on : (t : List ℕ) (next : ℕ) (text : List ℕ) (i k : ℕ) (z : Bool) (j c : ℕ) → j < k → c ≡ getD text (i + j) 0
-    → Looking (leaves t next text) i k z j → Looking (leaves t next text) i k (z || not (eqb (bitAnd (getD t c 0) next) 0)) (j + 1)
-leaves-on t next text i k z j c h e g = rw e (look-on (leaves t next text) i k z j h g)
-
-pub leaves-one : (t : List ℕ) (next : ℕ) (text : List ℕ) (i₀ end i c : ℕ) → i < end → c ≡ getD text i 0 → bitAnd (getD t c 0) next ≡ 0
-    → Missed (leaves t next text) i₀ end i → Missed (leaves t next text) i₀ end (i + 1)
-leaves-one t next text i₀ end i c h e z g =
-    miss-one (leaves t next text) i₀ end i g h (ap not (eq-eqb (bitAnd (getD t (getD text i 0) 0) next) 0 (rw (← e) z)))
 
 pub meets-one : (t : List ℕ) (next i₀ end c : ℕ) → c < end → bitAnd (getD t c 0) next ≡ 0 → Missed (meets t next) i₀ end c
     → Missed (meets t next) i₀ end (c + 1)
@@ -157,12 +132,3 @@ meets-down t next c end h z g = record { fore = omega arith; within = omega arit
     go : (j : ℕ) → c - 1 ≤ j → j < end → Dec (j < c) → meets t next j ≡ false
     go j p q (yes s) = let e : j ≡ c - 1 = omega arith in rw e (ap not (eq-eqb (bitAnd (getD t (c - 1) 0) next) 0 z))
     go j p q (no s) = g .none j (omega arith) q
-
--- a pair of bytes
-pub pair-on : (text : List ℕ) (a b x y i k : ℕ) (z : Bool) (j : ℕ) (q : Bool) → j < k → q ≡ pairAt text a b x y (i + j) → Looking (pairAt text a b x y) i k z j
-    → Looking (pairAt text a b x y) i k (z || q) (j + 1)
-pair-on text a b x y i k z j q h e g = rw e (look-on (pairAt text a b x y) i k z j h g)
-
-pub pair-one : (text : List ℕ) (a b x y i₀ end i : ℕ) (q : Bool) → i < end → q ≡ pairAt text a b x y i → q ≡ false → Missed (pairAt text a b x y) i₀ end i
-    → Missed (pairAt text a b x y) i₀ end (i + 1)
-pair-one text a b x y i₀ end i q h e z g = miss-one (pairAt text a b x y) i₀ end i g h (sym e ∙ z)

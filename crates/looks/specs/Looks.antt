@@ -1,10 +1,10 @@
 -- Places of a text that a test picks out, and what it is to have looked for them. Assumes nothing.
 use mathlib.Core.Path.{_≡_}
-use mathlib.Core.Bool.{Bool, false, not, _&&_}
+use mathlib.Core.Bool.{Bool, false, not}
 use mathlib.Core.List.{List}
 use Prim.Native.Nat.{ℕ, _+_, _≤_, _<_}
 use lib.Bits.{bitAnd}
-use lib.Dec.{eqb, leb}
+use lib.Dec.{eqb}
 use lib.ListN.{getD}
 
 -- A look at the k places from i on: where it says no, the test picks out none of them.
@@ -30,22 +30,10 @@ pub record LookAt (i last r : ℕ) : Type 0 where
 
 -- ---- the tests
 
--- the entry of byte c in a table meets the word `next`
-abbrev pub meets : (table : List ℕ) (next c : ℕ) → Bool
-meets table next c = not (eqb (bitAnd (getD table c 0) next) 0)
-
--- so does that of the byte at k
-abbrev pub leaves : (table : List ℕ) (next : ℕ) (text : List ℕ) (k : ℕ) → Bool
-leaves table next text k = meets table next (getD text k 0)
-
--- the byte at k is from lo to hi
-abbrev pub between : (text : List ℕ) (lo hi k : ℕ) → Bool
-between text lo hi k = leb lo (getD text k 0) && leb (getD text k 0) hi
-
--- it is x
+-- the byte at k is x
 abbrev pub same : (text : List ℕ) (x k : ℕ) → Bool
 same text x k = eqb (getD text k 0) x
 
--- the byte at the offset a from k is x, and that at b is y
-abbrev pub pairAt : (text : List ℕ) (a b x y k : ℕ) → Bool
-pairAt text a b x y k = eqb (getD text (k + a) 0) x && eqb (getD text (k + b) 0) y
+-- the entry of byte c in a table meets the word `next`
+abbrev pub meets : (table : List ℕ) (next c : ℕ) → Bool
+meets table next c = not (eqb (bitAnd (getD table c 0) next) 0)

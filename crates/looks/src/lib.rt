@@ -1,76 +1,18 @@
 // Looking through a text for the next place that a test picks out. A look tries a fixed number of
 // places with no branch between them, so that the compiler makes it vector code: whether the test
 // picks out one of them (any), or the first that it picks out (first). A skim goes on by looks; what
-// is left is found byte by byte. Each test has its own functions, as a function takes no test.
+// is left is found byte by byte. Each test has its own functions, as a function takes no test: here
+// are those for one byte, and what the looks of every test share.
 ghost use mathlib.Core.Path.{_≡_};
 ghost use Prim.Native.Nat.{_+_, _<_, _≤_};
 ghost use lib.ListN.{length};
-ghost use Rattle.looks.specs.Looks.{Looked, Missed, Placed, LookAt, leaves, between, same, pairAt};
+ghost use Rattle.looks.specs.Looks.{Looked, Missed, Placed, LookAt, same};
 
 // A byte as an index. Its contract tells a caller the bound, so that no proof in a loop has to.
 pub fn index(c: u8) -> usize
     ensures { λ r. ⌜ (r ≡ c) × (r < 256) ⌝ }
 {
     c as usize
-}
-
-// Whether one of the 8 bytes from i on leaves the state that `next` belongs to.
-fn any_leaves(table: &[u64], next: u64, text: &[u8], i: usize) -> bool
-    requires { ⌜ length (now table) ≡ 256 ⌝ }
-    requires { ⌜ i + 8 ≤ length (now text) ⌝ }
-    ensures { λ r. ⌜ Looked (leaves (now (table .entry)) next (now (text .entry))) i 8 r ⌝ }
-{
-    let mut z = false;
-    let mut j = 0;
-    while j < 8 {
-        let c = index(text[i + j]);
-        z = z | (table[c] & next != 0);
-        j += 1;
-    }
-    z
-}
-
-// No byte up to there leaves: by eights.
-fn skim_leaving(table: &[u64], next: u64, text: &[u8], i: usize) -> usize
-    requires { ⌜ length (now table) ≡ 256 ⌝ }
-    requires { ⌜ i ≤ length (now text) ⌝ }
-    ensures { λ r. ⌜ Missed (leaves (now (table .entry)) next (now (text .entry))) i (length (now (text .entry))) r ⌝ }
-{
-    let mut i = i;
-    while 8 <= text.len() - i {
-        if any_leaves(table, next, text, i) {
-            return i;
-        }
-        i += 8;
-    }
-    i
-}
-
-// The next byte that leaves, byte by byte, or the text's end.
-fn crawl_leaving(table: &[u64], next: u64, text: &[u8], i: usize) -> usize
-    requires { ⌜ length (now table) ≡ 256 ⌝ }
-    requires { ⌜ i ≤ length (now text) ⌝ }
-    ensures { λ r. ⌜ Missed (leaves (now (table .entry)) next (now (text .entry))) i (length (now (text .entry))) r ⌝ }
-{
-    let mut i = i;
-    while i < text.len() {
-        let c = index(text[i]);
-        if table[c] & next != 0 {
-            return i;
-        }
-        i += 1;
-    }
-    i
-}
-
-// The next byte that leaves, by table, or the text's end.
-pub fn find_leaving(table: &[u64], next: u64, text: &[u8], i: usize) -> usize
-    requires { ⌜ length (now table) ≡ 256 ⌝ }
-    requires { ⌜ i ≤ length (now text) ⌝ }
-    ensures { λ r. ⌜ Missed (leaves (now (table .entry)) next (now (text .entry))) i (length (now (text .entry))) r ⌝ }
-{
-    let j = skim_leaving(table, next, text, i);
-    crawl_leaving(table, next, text, j)
 }
 
 // The place j of a look where the test picks it out, else the look's end.
@@ -95,7 +37,7 @@ pub fn nearer(a: u8, b: u8) -> u8
 }
 
 // Where the next look starts: at i, or so that it ends with the text, `last` being the last place for it.
-fn look_at(i: usize, last: usize) -> usize
+pub fn look_at(i: usize, last: usize) -> usize
     requires { ⌜ i < last + 64 ⌝ }
     ensures { λ r. ⌜ LookAt i last r ⌝ }
 {
@@ -201,214 +143,4 @@ pub fn find_same(text: &[u8], x: u8, i: usize, end: usize) -> usize
         return j;
     }
     far_same(text, x, j, end)
-}
-
-// ---- a byte from lo to hi
-
-// Whether one of the 64 bytes from i on is from lo to hi.
-fn any_between(text: &[u8], lo: u8, hi: u8, i: usize) -> bool
-    requires { ⌜ i + 64 ≤ length (now text) ⌝ }
-    ensures { λ r. ⌜ Looked (between (now (text .entry)) lo hi) i 64 r ⌝ }
-{
-    let mut z = false;
-    let mut j = 0;
-    while j < 64 {
-        z = z | ((lo <= text[i + j]) & (text[i + j] <= hi));
-        j += 1;
-    }
-    z
-}
-
-// The first of them, or the place after them.
-fn first_between(text: &[u8], lo: u8, hi: u8, i: usize) -> usize
-    requires { ⌜ i + 64 ≤ length (now text) ⌝ }
-    ensures { λ r. ⌜ Missed (between (now (text .entry)) lo hi) i (i + 64) r ⌝ }
-{
-    let mut f: u8 = 64;
-    let mut j: u8 = 0;
-    while j < 64 {
-        let k = j as usize;
-        let hit = (lo <= text[i + k]) & (text[i + k] <= hi);
-        f = nearer(f, placed(hit, j));
-        j += 1;
-    }
-    i + f as usize
-}
-
-// None up to there: by sixty-fours, the last look over the last 64 places.
-fn skim_between(text: &[u8], lo: u8, hi: u8, i: usize, end: usize) -> usize
-    requires { ⌜ end ≤ length (now text) ⌝ }
-    requires { ⌜ i ≤ end ⌝ }
-    ensures { λ r. ⌜ Missed (between (now (text .entry)) lo hi) i end r ⌝ }
-{
-    if end < 64 {
-        return i;
-    }
-    let last = end - 64;
-    let mut i = i;
-    while i < end {
-        let at = look_at(i, last);
-        if any_between(text, lo, hi, at) {
-            return i;
-        }
-        i = at + 64;
-    }
-    i
-}
-
-// The next one, byte by byte, or `end`.
-fn crawl_between(text: &[u8], lo: u8, hi: u8, i: usize, end: usize) -> usize
-    requires { ⌜ end ≤ length (now text) ⌝ }
-    requires { ⌜ i ≤ end ⌝ }
-    ensures { λ r. ⌜ Missed (between (now (text .entry)) lo hi) i end r ⌝ }
-{
-    let mut i = i;
-    while i < end {
-        if (lo <= text[i]) & (text[i] <= hi) {
-            return i;
-        }
-        i += 1;
-    }
-    i
-}
-
-// The next one, or `end`, where it is likely to be far.
-fn far_between(text: &[u8], lo: u8, hi: u8, i: usize, end: usize) -> usize
-    requires { ⌜ end ≤ length (now text) ⌝ }
-    requires { ⌜ i ≤ end ⌝ }
-    ensures { λ r. ⌜ Missed (between (now (text .entry)) lo hi) i end r ⌝ }
-{
-    let j = skim_between(text, lo, hi, i, end);
-    if end - j < 64 {
-        return crawl_between(text, lo, hi, j, end);
-    }
-    first_between(text, lo, hi, j)
-}
-
-// The next one, or `end`: the first look tells its place too.
-pub fn find_between(text: &[u8], lo: u8, hi: u8, i: usize, end: usize) -> usize
-    requires { ⌜ end ≤ length (now text) ⌝ }
-    requires { ⌜ i ≤ end ⌝ }
-    ensures { λ r. ⌜ Missed (between (now (text .entry)) lo hi) i end r ⌝ }
-{
-    if end - i < 64 {
-        return far_between(text, lo, hi, i, end);
-    }
-    let j = first_between(text, lo, hi, i);
-    if j - i < 64 {
-        return j;
-    }
-    far_between(text, lo, hi, j, end)
-}
-
-// ---- a start that has the byte x at the offset a and y at b
-
-fn is_pair(text: &[u8], a: usize, b: usize, x: u8, y: u8, i: usize) -> bool
-    requires { ⌜ a < b ⌝ }
-    requires { ⌜ i + b < length (now text) ⌝ }
-    ensures { λ r. ⌜ r ≡ pairAt (now (text .entry)) a b x y i ⌝ }
-{
-    (text[i + a] == x) & (text[i + b] == y)
-}
-
-// Whether one of the 64 starts from i on has them.
-fn any_pair(text: &[u8], a: usize, b: usize, x: u8, y: u8, i: usize) -> bool
-    requires { ⌜ a < b ⌝ }
-    requires { ⌜ i + 64 + b ≤ length (now text) ⌝ }
-    ensures { λ r. ⌜ Looked (pairAt (now (text .entry)) a b x y) i 64 r ⌝ }
-{
-    let mut z = false;
-    let mut j = 0;
-    while j < 64 {
-        z = z | is_pair(text, a, b, x, y, i + j);
-        j += 1;
-    }
-    z
-}
-
-// The first of them, or the place after them.
-fn first_pair(text: &[u8], a: usize, b: usize, x: u8, y: u8, i: usize) -> usize
-    requires { ⌜ a < b ⌝ }
-    requires { ⌜ i + 64 + b ≤ length (now text) ⌝ }
-    ensures { λ r. ⌜ Missed (pairAt (now (text .entry)) a b x y) i (i + 64) r ⌝ }
-{
-    let mut f: u8 = 64;
-    let mut j: u8 = 0;
-    while j < 64 {
-        let k = j as usize;
-        let hit = is_pair(text, a, b, x, y, i + k);
-        f = nearer(f, placed(hit, j));
-        j += 1;
-    }
-    i + f as usize
-}
-
-// None up to there: by sixty-fours, the last look over the last 64 places.
-fn skim_pair(text: &[u8], a: usize, b: usize, x: u8, y: u8, i: usize, end: usize) -> usize
-    requires { ⌜ a < b ⌝ }
-    requires { ⌜ end + b ≤ length (now text) ⌝ }
-    requires { ⌜ i ≤ end ⌝ }
-    ensures { λ r. ⌜ Missed (pairAt (now (text .entry)) a b x y) i end r ⌝ }
-{
-    if end < 64 {
-        return i;
-    }
-    let last = end - 64;
-    let mut i = i;
-    while i < end {
-        let at = look_at(i, last);
-        if any_pair(text, a, b, x, y, at) {
-            return i;
-        }
-        i = at + 64;
-    }
-    i
-}
-
-// The next one, byte by byte, or `end`.
-fn crawl_pair(text: &[u8], a: usize, b: usize, x: u8, y: u8, i: usize, end: usize) -> usize
-    requires { ⌜ a < b ⌝ }
-    requires { ⌜ end + b ≤ length (now text) ⌝ }
-    requires { ⌜ i ≤ end ⌝ }
-    ensures { λ r. ⌜ Missed (pairAt (now (text .entry)) a b x y) i end r ⌝ }
-{
-    let mut i = i;
-    while i < end {
-        if is_pair(text, a, b, x, y, i) {
-            return i;
-        }
-        i += 1;
-    }
-    i
-}
-
-// The next one, or `end`, where it is likely to be far.
-fn far_pair(text: &[u8], a: usize, b: usize, x: u8, y: u8, i: usize, end: usize) -> usize
-    requires { ⌜ a < b ⌝ }
-    requires { ⌜ end + b ≤ length (now text) ⌝ }
-    requires { ⌜ i ≤ end ⌝ }
-    ensures { λ r. ⌜ Missed (pairAt (now (text .entry)) a b x y) i end r ⌝ }
-{
-    let j = skim_pair(text, a, b, x, y, i, end);
-    if end - j < 64 {
-        return crawl_pair(text, a, b, x, y, j, end);
-    }
-    first_pair(text, a, b, x, y, j)
-}
-
-// The next one, or `end`: the first look tells its place too.
-pub fn find_pair(text: &[u8], a: usize, b: usize, x: u8, y: u8, i: usize, end: usize) -> usize
-    requires { ⌜ a < b ⌝ }
-    requires { ⌜ end + b ≤ length (now text) ⌝ }
-    requires { ⌜ i ≤ end ⌝ }
-    ensures { λ r. ⌜ Missed (pairAt (now (text .entry)) a b x y) i end r ⌝ }
-{
-    if end - i < 64 {
-        return far_pair(text, a, b, x, y, i, end);
-    }
-    let j = first_pair(text, a, b, x, y, i);
-    if j - i < 64 {
-        return j;
-    }
-    far_pair(text, a, b, x, y, j, end)
 }

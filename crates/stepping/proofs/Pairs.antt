@@ -20,7 +20,8 @@ use Rattle.words.proofs.Digits.{bit-above, and-bit, or-bit, none-bit}
 use Rattle.words.proofs.Apart.{same-all, and-none, clear-below, Below, below-lt}
 use Rattle.words.proofs.Still.{flood-still, true-right, one-bit}
 use Rattle.words.proofs.Bridge.{top-bit}
-use Rattle.looks.specs.Looks.{Missed, pairAt}
+use Rattle.looks.specs.Looks.{Missed}
+use Rattle.lookouts.specs.Lookouts.{pairAt}
 use Rattle.plans.specs.Plans.{Paired}
 use Rattle.steps.specs.declared.Masks.{Masks}
 use Rattle.steps.specs.Stepping.{stepN, stepOn, stateAfter, endsIn}

@@ -11,7 +11,8 @@ use borrow.Author.Tests.{not-false, eqb-true, eqb-false, leb-true}
 use Rattle.model.proofs.Truth.{not-both}
 use Rattle.words.specs.ForwardStep.{move, advance, opening}
 use Rattle.words.proofs.Still.{move-none}
-use Rattle.looks.specs.Looks.{Missed, leaves, between, same, pairAt}
+use Rattle.looks.specs.Looks.{Missed, same}
+use Rattle.lookouts.specs.Lookouts.{leaves, between, pairAt}
 use Rattle.plans.specs.declared.Plan.{Plan}
 use Rattle.plans.specs.Plans.{Home, Inside, Paired, Planned}
 use Rattle.steps.specs.declared.Masks.{Masks}

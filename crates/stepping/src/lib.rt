@@ -37,7 +37,7 @@ fn pass_pair(
     if text.len() - i < b {
         return i;
     }
-    looks::find_pair(text, a, b, x, y, i, text.len() - b)
+    lookouts::find_pair(text, a, b, x, y, i, text.len() - b)
 }
 
 // A text of fewer bytes than this, as between two references that stand close, is walked through.
@@ -64,12 +64,12 @@ fn pass(table: &[u64], m: Masks, p: Plan, d: u64, text: &[u8], i: usize) -> usiz
         return looks::find_same(text, p.lo, i, text.len());
     }
     if kind == plans::BY_RANGE {
-        return looks::find_between(text, p.lo, p.hi, i, text.len());
+        return lookouts::find_between(text, p.lo, p.hi, i, text.len());
     }
     if kind == plans::BY_PAIR {
         return pass_pair(table, m, p.a, p.b, p.lo, p.hi, text, i);
     }
-    looks::find_leaving(table, p.next, text, i)
+    lookouts::find_leaving(table, p.next, text, i)
 }
 
 // A pass of fewer bytes than this does not pay; one to a single byte, whose look is cheap, does sooner.
