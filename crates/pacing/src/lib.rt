@@ -1,6 +1,6 @@
 // Walks for texts on which it cannot be foreseen whether the next byte floods, or ends an occurrence:
-// they flood at each byte, as the formula does, and one of them stores ends without a branch. Both promise what
-// every walk promises. A look ahead tells such texts; only speed hangs on what it says.
+// they flood at each byte, as the formula does, and one of them stores ends without a branch. They
+// promise what every walk promises. A look ahead tells such texts; only speed hangs on what it says.
 ghost use mathlib.Core.Path.{_≡_};
 ghost use mathlib.Core.Bool.{true};
 ghost use Prim.Native.Nat.{_<_, _≤_};
@@ -109,7 +109,8 @@ fn pick(hit: u64, at: u32, old: u32) -> u32
     old ^ ((old ^ at) & mask)
 }
 
-// The same where the blocks are free and ends stand close: each byte writes an entry, the end or what stood there.
+// The same where the blocks are free and ends stand close: each byte writes an entry, the end or what
+// stood there.
 fn walk_dense(
     table: &[u64],
     m: Masks,
@@ -148,7 +149,8 @@ fn walk_dense(
     }
 }
 
-// Walks without a test for floods: at least one byte, and only one where the state is not as a step leaves it.
+// Walks without a test for floods: at least one byte, and only one where the state is not as a step
+// leaves it.
 pub fn walk_evenly(
     table: &[u64],
     m: Masks,
@@ -178,7 +180,8 @@ pub fn walk_evenly(
 }
 
 // How many bytes a look ahead takes; and of how many floods, or changes between flooding and not, a walk
-// with a test for them does not pay. Where the blocks are not free a flood costs more: then it takes more changes.
+// with a test for them does not pay. Where the blocks are not free a flood costs more: then it takes
+// more changes.
 const AHEAD: usize = 32;
 
 const FLOODS: u64 = 30;
