@@ -3,17 +3,17 @@ use mathlib.Core.Path.{_≡_, refl, sym, ap, subst, _∙_}
 use mathlib.Core.Bool.{true, false, true≢false}
 use mathlib.Core.List.{List, [], _∷_, _++_, append-nil, append-assoc}
 use Prim.Native.Nat.{ℕ, zero, suc, _+_, _-_, _≤_, _<_}
-use native.Mathlib.Nat.{add-zero, zero-add}
+use native.Mathlib.Nat.{add-zero}
 use native.Mathlib.Numerals.{add-one}
 use native.Mathlib.Omega.{arith}
 use lib.ListN.{length, take, drop, getD, set, length-append, length-drop, drop-of-length-le, take-append-drop}
-use lib.Seq.{sets, sets-eq, length-sets, drop-cons, drop-drop, length-take-le, take-all, take-append-seam}
+use lib.Seq.{sets, sets-eq, length-sets, drop-cons, drop-drop, length-take-le, take-all, take-at, take-append-add, take-append-le}
 use mir.Val.{Fits}
 use mir.Syntax.{w64}
-use borrow.Rule.Slice.PartMut.{putMid, midOf}
+use borrow.Rule.Slice.PartMut.{putMid, postOf, midOf, same-len-mid}
 use Rattle.model.specs.References.{formLimit, none, referenceAt, utf8, canGrow, heldTail, letOut}
-use Rattle.model.proofs.LentLists.{sets-append, sets-from}
-use Rattle.runs.specs.Runs.{RunCopied}
+use Rattle.model.proofs.LentLists.{sets-from}
+use Rattle.runs.specs.Runs.{RunSpilled}
 use Rattle.references.specs.declared.Reference.{Reference}
 use Rattle.references.specs.declared.Reference.the-variants.{Code, Plain, Open}
 use Rattle.references.specs.Reader.{reading, Moves, ReadIs}
@@ -23,21 +23,44 @@ use Rattle.references.proofs.Readings.{code-told, plain-told, open-told}
 use Rattle.filling.specs.declared.Token.{Token}
 use Rattle.filling.specs.Filling.{TokenIs, FilledIs}
 
+-- ---- the front of a room
+
+-- stores from `at` on
+front-sets : (room : List ℕ) (at : ℕ) (vs : List ℕ) → at + length vs ≤ length room → take (at + length vs) (sets room at vs) ≡ take at room ++ vs
+front-sets room at vs h =
+    let m : length (take at room) ≡ at = length-take-le at room (omega arith) in
+    ap (take (at + length vs)) (sets-eq vs room at h)
+    ∙ take-at (take at room ++ vs) (drop (at + length vs) room) (at + length vs) (omega (arith, length-append (take at room) vs))
+
+-- a part that was lent from `at` on, and came back with n elements known
+front-put : (room : List ℕ) (at n : ℕ) (part : List ℕ) → at ≤ length room → n ≤ length part
+    → take (at + n) (putMid at (length room - at) room part) ≡ take at room ++ take n part
+front-put room at n part h l =
+    let m : length (take at room) ≡ at = length-take-le at room h in
+    let post : List ℕ = postOf at (length room - at) room in
+    ap (λ (k : ℕ). take (k + n) (take at room ++ (part ++ post))) (sym m)
+    ∙ take-append-add (take at room) (part ++ post) n
+    ∙ ap (λ (l : List ℕ). take at room ++ l) (take-append-le n part post l)
+
 -- ---- `fill_amp`, `fill_token`
 
 module _ (piece room : List ℕ) (i at : ℕ) (h : i < length piece) (wide : at + length piece ≤ length room + i) where
   rest-is : midOf i (length piece - i) piece ≡ drop i piece
   rest-is = take-all (length piece - i) (drop i piece) (omega (arith, length-drop i piece))
 
+  room-left : length (midOf at (length room - at) room) ≡ length room - at
+  room-left = length-take-le (length room - at) (drop at room) (omega (arith, length-drop at room))
+
   -- a run of plain bytes
-  pub token-run : (getD piece i 0 ≡ 38 → ⊥) → (n : ℕ) (part : List ℕ) → RunCopied (midOf i (length piece - i) piece) (midOf at (length room - at) room) n part
+  pub token-run : (getD piece i 0 ≡ 38 → ⊥) → (n : ℕ) (part : List ℕ) → RunSpilled (midOf i (length piece - i) piece) (midOf at (length room - at) room) n part
       → TokenIs piece i room at (record { read = i + n; written = at + n; held = false }) (putMid at (length room - at) room part)
   token-run z n part x =
       let d = drop i piece in
-      let y : RunCopied d (midOf at (length room - at) room) n part = subst (λ (l : List ℕ). RunCopied l (midOf at (length room - at) room) n part) rest-is x in
+      let y : RunSpilled d (midOf at (length room - at) room) n part = subst (λ (l : List ℕ). RunSpilled l (midOf at (length room - at) room) n part) rest-is x in
       let u = y .run in
       let f = u .fits in
       let l : length d ≡ length piece - i = length-drop i piece in
+      let p : length part ≡ length room - at = y .long ∙ room-left in
       let t : length (take n d) ≡ n = length-take-le n d f in
       let first : getD d 0 0 ≡ getD piece i 0 = ap (λ (l : List ℕ). getD l 0 0) (drop-cons piece i 0 h) in
       let some : 0 < n = positive n (λ e. z (sym first ∙ (subst (λ (j : ℕ). getD d j 0 ≡ 38) e (u .stops (omega arith))))) in
@@ -51,7 +74,8 @@ module _ (piece room : List ℕ) (i at : ℕ) (h : i < length piece) (wide : at 
         fits = omega arith;
         written = rw t;
         few = omega arith;
-        list = rw (y .list) (sets-from room at (take n d) (omega arith));
+        front = front-put room at n part (omega arith) (omega arith) ∙ ap (λ (l : List ℕ). take at room ++ l) (y .front);
+        long = same-len-mid at (length room - at) room part (y .long);
         moves = λ e. omega arith;
         all-held = λ e. absurd (true≢false (sym e));
       }
@@ -74,8 +98,7 @@ module _ (piece room : List ℕ) (i at : ℕ) (h : i < length piece) (wide : at 
           let m = moving in
           let m₁ = m .1 in
           let m₂ = m .2 in
-          let l : length (midOf at (length room - at) room) ≡ length room - at = ap length (take-all (length room - at) (drop at room) (omega (arith, length-drop at room))) ∙ length-drop at room in
-          record { small = m .3; room = omega (arith, length-drop i piece) }
+          record { small = m .3; room = omega (arith, room-left, length-drop i piece) }
 
       pub code-after : Fits w64 (length piece) → Fits w64 (i + k)
       code-after f = let m = moving .1 in omega (arith, length-drop i piece)
@@ -96,6 +119,8 @@ module _ (piece room : List ℕ) (i at : ℕ) (h : i < length piece) (wide : at 
           let m₂ = m .2 in
           let c = p .count in
           let q = code-told formLimit (drop i piece) code k (sym e ∙ read-rest) in
+          let w : at + length (utf8 code) ≤ length room = omega (arith, length-drop i piece) in
+          let l : putMid at (length room - at) room part ≡ sets room at (utf8 code) = rw (p .list) (sets-from room at (utf8 code) w) in
           record {
             gives = utf8 code;
             lets-out = letOut-reference formLimit (drop i piece) code k q ∙ ap (λ (l : List ℕ). utf8 code ++ letOut formLimit l) (drop-drop k i piece);
@@ -103,7 +128,8 @@ module _ (piece room : List ℕ) (i at : ℕ) (h : i < length piece) (wide : at 
             fits = omega (arith, length-drop i piece);
             written = rw c;
             few = omega (arith, c);
-            list = rw (p .list) (sets-from room at (utf8 code) (omega (arith, length-drop i piece)));
+            front = ap (take (at + n)) l ∙ rw c (front-sets room at (utf8 code) w);
+            long = ap length l ∙ length-sets room at (utf8 code);
             moves = λ e. omega arith;
             all-held = λ e. absurd (true≢false (sym e));
           }
@@ -125,7 +151,8 @@ module _ (piece room : List ℕ) (i at : ℕ) (h : i < length piece) (wide : at 
           fits = omega arith;
           written = refl;
           few = omega arith;
-          list = refl;
+          front = front-sets room at (getD piece i 0 ∷ []) (omega arith);
+          long = length-sets room at (getD piece i 0 ∷ []);
           moves = λ e. omega arith;
           all-held = λ e. absurd (true≢false (sym e));
         }
@@ -142,7 +169,8 @@ module _ (piece room : List ℕ) (i at : ℕ) (h : i < length piece) (wide : at 
           fits = omega arith;
           written = sym (add-zero at);
           few = omega arith;
-          list = refl;
+          front = sym (append-nil (take at room));
+          long = refl;
           moves = λ e. absurd (true≢false e);
           all-held = λ e. ap (heldTail formLimit) c ∙ held-open formLimit (getD piece i 0) (drop (suc i) piece) (ap (canGrow formLimit) (sym c) ∙ f .1) ∙ sym c;
         }
@@ -154,61 +182,47 @@ pub record Writing (piece room₀ room : List ℕ) (i at : ℕ) : Type 0 where
   pub lets-out : letOut formLimit piece ≡ done ++ letOut formLimit (drop i piece)
   pub holds : heldTail formLimit piece ≡ heldTail formLimit (drop i piece)
   pub within : i ≤ length piece
-  pub written : at ≡ length done
   pub few : at ≤ i
+  pub front : take at room ≡ done
   pub long : length room ≡ length room₀
-  pub list : room ≡ sets room₀ 0 done
 
 module _ (piece room₀ : List ℕ) where
   pub begun : Writing piece room₀ room₀ 0 0
-  begun = record { done = []; lets-out = refl; holds = refl; within = omega arith; written = refl; few = omega arith; long = refl; list = refl }
+  begun = record { done = []; lets-out = refl; holds = refl; within = omega arith; few = omega arith; front = refl; long = refl }
 
   -- nothing more is let out, so the room's front is all of it
-  all-written : {room : List ℕ} {i at : ℕ} → Writing piece room₀ room i at → length piece ≤ length room₀ → heldTail formLimit (drop i piece) ≡ drop i piece
+  all-written : {room : List ℕ} {i at : ℕ} → Writing piece room₀ room i at → heldTail formLimit (drop i piece) ≡ drop i piece
       → FilledIs piece room₀ (record { kept = i; written = at }) room
-  all-written {room} {i} {at} g wide a =
+  all-written {room} {i} {at} g a =
       let o : letOut formLimit piece ≡ g .done = g .lets-out ∙ ap (λ (l : List ℕ). g .done ++ l) (all-held formLimit (drop i piece) a) ∙ append-nil (g .done) in
-      let f = g .few in
-      let w = g .within in
-      let n = g .written in
-      let e : room ≡ g .done ++ drop (0 + length (g .done)) room₀ = g .list ∙ sets-eq (g .done) room₀ 0 (omega arith) in
-      record {
-        gives = rw (n, e) (take-append-seam (g .done) (drop (0 + length (g .done)) room₀)) ∙ sym o;
-        holds = sym (g .holds ∙ a);
-        fits = w;
-        few = f;
-        long = g .long;
-      }
+      record { gives = g .front ∙ sym o; holds = sym (g .holds ∙ a); fits = g .within; few = g .few; long = g .long }
 
   module _ {room : List ℕ} {i at : ℕ} (g : Writing piece room₀ room i at) where
     module _ {r : Token} {room′ : List ℕ} (x : TokenIs piece i room at r room′) where
       further : Writing piece room₀ room′ (r .read) (r .written)
       further =
-          let w = x .written in
           let f = x .few in
           let k = g .few in
-          let n = g .written in
           record {
             done = g .done ++ x .gives;
             lets-out = g .lets-out ∙ ap (λ (l : List ℕ). g .done ++ l) (x .lets-out) ∙ sym (append-assoc (g .done) (x .gives) (letOut formLimit (drop (r .read) piece)));
             holds = g .holds ∙ x .holds;
             within = x .fits;
-            written = omega (arith, length-append (g .done) (x .gives));
             few = omega arith;
-            long = ap length (x .list) ∙ length-sets room at (x .gives) ∙ g .long;
-            list = x .list ∙ rw (g .list, n) (sym (sets-append room₀ 0 (g .done) (x .gives) ∙ rw zero-add));
+            front = x .front ∙ ap (λ (l : List ℕ). l ++ x .gives) (g .front);
+            long = x .long ∙ g .long;
           }
 
       pub turn : r .held ≡ false → Writing piece room₀ room′ (r .read) (r .written)
       turn e = further
 
-      pub stopped : length piece ≤ length room₀ → r .held ≡ true → FilledIs piece room₀ (record { kept = r .read; written = r .written }) room′
-      stopped wide e = all-written further wide (x .all-held e)
+      pub stopped : r .held ≡ true → FilledIs piece room₀ (record { kept = r .read; written = r .written }) room′
+      stopped e = all-written further (x .all-held e)
 
       pub less : r .held ≡ false → length piece - r .read < length piece - i
       less e = let m = x .moves e in omega (arith, x .fits)
 
-    pub over : length piece ≤ length room₀ → length piece ≤ i → FilledIs piece room₀ (record { kept = i; written = at }) room
-    over wide stop =
+    pub over : length piece ≤ i → FilledIs piece room₀ (record { kept = i; written = at }) room
+    over stop =
         let n : drop i piece ≡ [] = drop-of-length-le piece stop in
-        all-written g wide (ap (heldTail formLimit) n ∙ sym n)
+        all-written g (ap (heldTail formLimit) n ∙ sym n)

@@ -4,12 +4,12 @@ use mathlib.Core.Bool.{true, false}
 use mathlib.Core.List.{List, _++_}
 use Prim.Native.Nat.{ℕ, _+_, _≤_, _<_}
 use lib.ListN.{length, take, drop}
-use lib.Seq.{sets}
 use Rattle.model.specs.References.{formLimit, heldTail, letOut}
 use Rattle.filling.specs.declared.Token.{Token}
 use Rattle.filling.specs.declared.Filled.{Filled}
 
--- `fill_token`: from place i on, what is let out is written from `at` on, or all the rest is held back
+-- `fill_token`: from place i on, what is let out is written from `at` on, or all the rest is held back. No more is said of the room than as far as it is
+-- written.
 pub record TokenIs (piece : List ℕ) (i : ℕ) (room : List ℕ) (at : ℕ) (r : Token) (room′ : List ℕ) : Type 0 where
   pub gives : List ℕ
   pub lets-out : letOut formLimit (drop i piece) ≡ gives ++ letOut formLimit (drop (r .read) piece)
@@ -17,7 +17,8 @@ pub record TokenIs (piece : List ℕ) (i : ℕ) (room : List ℕ) (at : ℕ) (r 
   pub fits : r .read ≤ length piece
   pub written : r .written ≡ at + length gives
   pub few : r .written + i ≤ r .read + at
-  pub list : room′ ≡ sets room at gives
+  pub front : take (r .written) room′ ≡ take at room ++ gives
+  pub long : length room′ ≡ length room
   pub moves : r .held ≡ false → i < r .read
   pub all-held : r .held ≡ true → heldTail formLimit (drop (r .read) piece) ≡ drop (r .read) piece
 

@@ -58,7 +58,7 @@ fn fill_token(piece: &[u8], i: usize, room: &mut [u8], at: usize) -> Token
     if piece[i] == b'&' {
         return fill_amp(piece, i, room, at);
     }
-    let n = runs::copy_run(&piece[i..], &mut room[at..]);
+    let n = runs::spill_run(&piece[i..], &mut room[at..]);
     let after = i + n;
     let end = at + n;
     Token {

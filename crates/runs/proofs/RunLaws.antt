@@ -18,7 +18,7 @@ use Rattle.looks.specs.Looks.{Looked, Missed, same}
 use Rattle.runs.specs.Runs.{Copied, RestCopied, RunCopied}
 
 -- k places that a look for `&` did not pick out are plain bytes
-missed-plain : (s : List ℕ) (k i : ℕ) → i + k ≤ length s → ((j : ℕ) → j < k → same s 38 (i + j) ≡ false) → T (all notAmp (take k (drop i s)))
+pub missed-plain : (s : List ℕ) (k i : ℕ) → i + k ≤ length s → ((j : ℕ) → j < k → same s 38 (i + j) ≡ false) → T (all notAmp (take k (drop i s)))
 missed-plain s zero i h f = tt
 missed-plain s (suc k) i h f =
     subst (λ (l : List ℕ). T (all notAmp (take (suc k) l))) (sym (drop-cons s i 0 (omega arith)))

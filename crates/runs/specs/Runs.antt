@@ -32,3 +32,17 @@ pub record RunIs (s : List ℕ) (r : ℕ) : Type 0 where
 pub record RunCopied (raw out : List ℕ) (r : ℕ) (out′ : List ℕ) : Type 0 where
   pub run : RunIs raw r
   pub list : out′ ≡ sets out 0 (take r raw)
+
+-- `spill_blocks`: the first r bytes, none of them `&`, stand at the buffer's front, and so do the 32 after them where the end is not near
+pub record BlocksSpilled (raw out : List ℕ) (r : ℕ) (out′ : List ℕ) : Type 0 where
+  pub fits : r ≤ length raw
+  pub plain : T (all notAmp (take r raw))
+  pub front : take r out′ ≡ take r raw
+  pub ahead : r + 64 ≤ length raw → take (r + 32) out′ ≡ take (r + 32) raw
+  pub long : length out′ ≡ length out
+
+-- `spill_run`: they stand at the buffer's front, and no more is said of it
+pub record RunSpilled (raw out : List ℕ) (r : ℕ) (out′ : List ℕ) : Type 0 where
+  pub run : RunIs raw r
+  pub front : take r out′ ≡ take r raw
+  pub long : length out′ ≡ length out

@@ -5,8 +5,8 @@ ghost use mathlib.Core.List.{_++_};
 ghost use Prim.Native.Nat.{_+_, _≤_};
 ghost use lib.ListN.{length, take, drop};
 ghost use lib.Seq.{sets};
-ghost use Rattle.looks.specs.Looks.{Looked, same};
-ghost use Rattle.runs.specs.Runs.{Copied, RestCopied, RunCopied};
+ghost use Rattle.looks.specs.Looks.{Looked, Missed, same};
+ghost use Rattle.runs.specs.Runs.{Copied, RestCopied, RunCopied, BlocksSpilled, RunSpilled};
 
 // Whether one of the 32 bytes from i on is a `&`. No early exit, so that it compiles to vector
 // instructions.
@@ -164,4 +164,53 @@ pub fn copy_run(raw: &[u8], out: &mut [u8]) -> usize
         return copy_bytes(raw, i, out);
     }
     copy_near(raw, i, out)
+}
+
+// ---- into a buffer that is read only as far as it is written
+
+// Copies blocks of 32 bytes to the front of `out`, each before it is looked at, up to one that has a
+// `&` or stands near the end, and returns where that begins.
+fn spill_blocks(raw: &[u8], out: &mut [u8]) -> usize
+    requires { ⌜ length (now raw) ≤ length (now out) ⌝ }
+    ensures { λ r. ⌜ BlocksSpilled (now (raw .entry)) (now (out .entry)) r (now (out .exit)) ⌝ }
+{
+    let mut at = 0;
+    while 64 <= raw.len() - at {
+        copy_block(raw, at, out);
+        if any_amp(raw, at) {
+            return at;
+        }
+        at += 32;
+    }
+    at
+}
+
+// How far from i on, at most 32 bytes, no `&` stands.
+fn near_amp(raw: &[u8], i: usize) -> usize
+    requires { ⌜ i + 64 ≤ length (now raw) ⌝ }
+    ensures { λ r. ⌜ Missed (same (now (raw .entry)) 38) i (i + 32) r ⌝ }
+{
+    let j = looks::first_same(raw, b'&', i);
+    let n = j - i;
+    if 32 < n {
+        return i;
+    }
+    j
+}
+
+// Copies the bytes before the first `&`, or all of them, to the front of `out`, and returns how many.
+// What stands after them in `out` may change too.
+pub fn spill_run(raw: &[u8], out: &mut [u8]) -> usize
+    requires { ⌜ length (now raw) ≤ length (now out) ⌝ }
+    ensures { λ r. ⌜ RunSpilled (now (raw .entry)) (now (out .entry)) r (now (out .exit)) ⌝ }
+{
+    let i = spill_blocks(raw, out);
+    if raw.len() - i < 64 {
+        return copy_bytes(raw, i, out);
+    }
+    let j = near_amp(raw, i);
+    if raw[j] == b'&' {
+        return j;
+    }
+    copy_bytes(raw, j, out)
 }

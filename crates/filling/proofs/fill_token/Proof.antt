@@ -16,26 +16,26 @@ same-length c = search needs
 returns : tie.Need-returns
 returns c = search needs
 
-sub-copy-run : tie.Need-sub-copy-run
-sub-copy-run c = search needs
+sub-spill-run : tie.Need-sub-spill-run
+sub-spill-run c = search needs
 
-part-copy-run-start : tie.Need-part-copy-run-start
-part-copy-run-start c = search needs
+part-spill-run-start : tie.Need-part-spill-run-start
+part-spill-run-start c = search needs
 
-part-copy-run-end : tie.Need-part-copy-run-end
-part-copy-run-end c = search needs
+part-spill-run-end : tie.Need-part-spill-run-end
+part-spill-run-end c = search needs
 
-sub-copy-run-2 : tie.Need-sub-copy-run-2
-sub-copy-run-2 c = search needs
+sub-spill-run-2 : tie.Need-sub-spill-run-2
+sub-spill-run-2 c = search needs
 
-part-copy-run-start-2 : tie.Need-part-copy-run-start-2
-part-copy-run-start-2 c = search needs
+part-spill-run-start-2 : tie.Need-part-spill-run-start-2
+part-spill-run-start-2 c = search needs
 
-part-copy-run-end-2 : tie.Need-part-copy-run-end-2
-part-copy-run-end-2 c = search needs
+part-spill-run-end-2 : tie.Need-part-spill-run-end-2
+part-spill-run-end-2 c = search needs
 
-copy-run-requires : tie.Need-copy-run-requires
-copy-run-requires c κs = search needs
+spill-run-requires : tie.Need-spill-run-requires
+spill-run-requires c κs = search needs
 
 add-after : tie.Need-add-after
 add-after c = search needs
@@ -57,13 +57,13 @@ fill-token-spec =
     fill-amp-requires
     same-length
     returns
-    sub-copy-run
-    part-copy-run-start
-    part-copy-run-end
-    sub-copy-run-2
-    part-copy-run-start-2
-    part-copy-run-end-2
-    copy-run-requires
+    sub-spill-run
+    part-spill-run-start
+    part-spill-run-end
+    sub-spill-run-2
+    part-spill-run-start-2
+    part-spill-run-end-2
+    spill-run-requires
     add-after
     add-end
     same-length-2
