@@ -14,6 +14,7 @@ use Rattle.words.specs.ForwardStep.{topBit}
 use Rattle.words.proofs.Digits.{xor-bit}
 use Rattle.words.proofs.Apart.{same-all}
 use Rattle.steps.specs.declared.Masks.{Masks}
+use Rattle.walking.specs.declared.Spot.{Spot}
 use Rattle.steps.specs.Settling.{Settled, StepsTo}
 use Rattle.walking.proofs.Turns.{Strolling, stroll-passed, stroll-ended}
 use Rattle.pacing.specs.Pacing.{Reported, picked}
@@ -51,21 +52,21 @@ report-is top d = record { is = digit (d / 2 ^ top % 2) (omega arith); low = ome
     digit (suc zero) h = refl
     digit (suc (suc n)) h = absurd (omega arith)
 
--- b is the byte at i, d′ the state after it, and x what is stored
-module _ {t : List ℕ} {m : Masks} {text ends₀ ends : List ℕ} {d₀ at₀ n₀ i₀ d at n i until : ℕ}
-    (g : Strolling t m until text ends₀ d₀ at₀ n₀ i₀ ends d at n i) {b d′ : ℕ} (l : i < until) (eb : b ≡ getD text i 0) (es : StepsTo m d (getD t b 0) d′) where
-  pub stroll-dense : {hit x : ℕ} → Reported (m .top) d′ hit → x ≡ picked (eqb hit 1) (at + 1) (getD ends n 0)
-      → Strolling t m until text ends₀ d₀ at₀ n₀ i₀ (set ends n x) d′ (at + 1) (n + hit) (i + 1)
-  stroll-dense {hit} {x} eh ex = go (topBit (m .top) d′) refl
+-- b is the byte at i, d′ the state after it, p the place after it, and x what is stored
+module _ {t : List ℕ} {m : Masks} {text ends₀ ends : List ℕ} {s : Spot} {d n i until : ℕ} (g : Strolling t m until text ends₀ s ends d n i)
+    {b d′ : ℕ} (l : i < until) (eb : b ≡ getD text i 0) (es : StepsTo m d (getD t b 0) d′) where
+  pub stroll-dense : {hit p x : ℕ} → Reported (m .top) d′ hit → p ≡ s .at + (i + 1 - s .i) → x ≡ picked (eqb hit 1) p (getD ends n 0)
+      → Strolling t m until text ends₀ s (set ends n x) d′ (n + hit) (i + 1)
+  stroll-dense {hit} {p} {x} eh ep ex = go (topBit (m .top) d′) refl
     where
-      go : (r : Bool) → r ≡ topBit (m .top) d′ → Strolling t m until text ends₀ d₀ at₀ n₀ i₀ (set ends n x) d′ (at + 1) (n + hit) (i + 1)
+      go : (r : Bool) → r ≡ topBit (m .top) d′ → Strolling t m until text ends₀ s (set ends n x) d′ (n + hit) (i + 1)
       go true er =
           let h : hit ≡ 1 = eh .is ∙ ap oneIf (sym er) in
-          let e : x ≡ at + 1 = ex ∙ ap (λ (k : ℕ). picked (eqb k 1) (at + 1) (getD ends n 0)) h in
-          rw (e, h) (stroll-ended g l eb es er refl)
+          let e : x ≡ p = ex ∙ ap (λ (k : ℕ). picked (eqb k 1) p (getD ends n 0)) h in
+          rw (e, h) (stroll-ended g l eb es er refl ep)
       go false er =
           let h : hit ≡ 0 = eh .is ∙ ap oneIf (sym er) in
-          let e : x ≡ getD ends n 0 = ex ∙ ap (λ (k : ℕ). picked (eqb k 1) (at + 1) (getD ends n 0)) h in
+          let e : x ≡ getD ends n 0 = ex ∙ ap (λ (k : ℕ). picked (eqb k 1) p (getD ends n 0)) h in
           let z : n + 0 ≡ n = omega arith in
           rw (e, h, set-getD ends n 0, z) (stroll-passed g l eb es er refl)
 

@@ -32,22 +32,20 @@ fn walk_flooding(
     ensures { λ r. ⌜ Walked (now (table .entry)) m (now (text .entry)) (now (ends .entry)) (s .d) (s .at) (s .n) (s .i) r (now (ends .exit)) ⌝ }
 {
     let mut d = s.d;
-    let mut at = s.at;
     let mut n = s.n;
     let mut i = s.i;
     while i < until {
         let c = looks::index(text[i]);
         d = steps::step_free(d, table[c], m, q);
-        at += 1;
         i += 1;
         if words::reports(d, m.top) {
-            ends[n] = at;
+            ends[n] = walking::place(s, i);
             n += 1;
         }
     }
     Spot {
         d: d,
-        at: at,
+        at: walking::place(s, i),
         n: n,
         i: i,
     }
@@ -71,22 +69,20 @@ fn walk_tied(
     ensures { λ r. ⌜ Walked (now (table .entry)) m (now (text .entry)) (now (ends .entry)) (s .d) (s .at) (s .n) (s .i) r (now (ends .exit)) ⌝ }
 {
     let mut d = s.d;
-    let mut at = s.at;
     let mut n = s.n;
     let mut i = s.i;
     while i < until {
         let c = looks::index(text[i]);
         d = steps::step_flooding(d, table[c], m, q);
-        at += 1;
         i += 1;
         if words::reports(d, m.top) {
-            ends[n] = at;
+            ends[n] = walking::place(s, i);
             n += 1;
         }
     }
     Spot {
         d: d,
-        at: at,
+        at: walking::place(s, i),
         n: n,
         i: i,
     }
@@ -129,21 +125,20 @@ fn walk_dense(
     ensures { λ r. ⌜ Walked (now (table .entry)) m (now (text .entry)) (now (ends .entry)) (s .d) (s .at) (s .n) (s .i) r (now (ends .exit)) ⌝ }
 {
     let mut d = s.d;
-    let mut at = s.at;
     let mut n = s.n;
     let mut i = s.i;
     while i < until {
         let c = looks::index(text[i]);
         d = steps::step_free(d, table[c], m, q);
-        at += 1;
         i += 1;
         let hit = report_bit(d, m.top);
+        let at = walking::place(s, i);
         ends[n] = pick(hit, at, ends[n]);
         n += hit as usize;
     }
     Spot {
         d: d,
-        at: at,
+        at: walking::place(s, i),
         n: n,
         i: i,
     }

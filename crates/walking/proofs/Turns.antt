@@ -1,9 +1,9 @@
 -- A run goes on, byte by byte and over what may be passed: what the rest of the text would make of the present place is what the text makes of the
 -- first one. And stepping over two runs of bytes. Assumes nothing.
-use mathlib.Core.Path.{_≡_, refl, sym, ap, _∙_}
+use mathlib.Core.Path.{_≡_, refl, sym, ap, subst, _∙_}
 use mathlib.Core.List.{List, [], _∷_, _++_}
 use mathlib.Core.Bool.{Bool, true, false, not}
-use Prim.Native.Nat.{ℕ, suc, _+_, _-_, _≤_, _<_}
+use Prim.Native.Nat.{ℕ, suc, _+_, _-_, _^_, _≤_, _<_}
 use native.Mathlib.Numerals.{add-one}
 use native.Mathlib.Nat.{add-zero}
 use native.Mathlib.Omega.{arith}
@@ -110,60 +110,106 @@ module _ {t : List ℕ} {m : Masks} {text ends₀ ends : List ℕ} {d₀ at₀ n
     list = k .list ∙ g .list;
   }
 
--- ---- a walk, whose states are settled
+-- ---- a walk from a place s, whose states are settled. The count of bytes before i is what the place gives.
 
-pub record Strolling (t : List ℕ) (m : Masks) (until : ℕ) (text ends₀ : List ℕ) (d₀ at₀ n₀ i₀ : ℕ) (ends : List ℕ) (d at n i : ℕ) : Type 0 where
-  pub going : Going t m text ends₀ d₀ at₀ n₀ i₀ ends d at n i
-  pub far : until ≤ length text
+pub record Strolling (t : List ℕ) (m : Masks) (until : ℕ) (text ends₀ : List ℕ) (s : Spot) (ends : List ℕ) (d n i : ℕ) : Type 0 where
+  pub going : Going t m text ends₀ (s .d) (s .at) (s .n) (s .i) ends d (s .at + (i - s .i)) n i
   pub settled : Settled m d
+  pub far : until ≤ length text
+  pub fore : s .i ≤ i
+  pub within : i ≤ length text
+  pub fits : s .at + length text < 2 ^ 32 + s .i
+  pub behind : n ≤ i
+  pub room : length text ≤ length ends
 
-pub set-out : (t : List ℕ) (m : Masks) (text ends₀ : List ℕ) (d₀ at₀ n₀ i₀ until : ℕ) → i₀ < until → until ≤ length text → Settled m d₀
-    → Strolling t m until text ends₀ d₀ at₀ n₀ i₀ ends₀ d₀ at₀ n₀ i₀
-set-out t m text ends₀ d₀ at₀ n₀ i₀ until l w o = record { going = begun t m text ends₀ d₀ at₀ n₀ i₀ (omega arith); far = w; settled = o }
+pub set-out : (t : List ℕ) (m : Masks) (until : ℕ) (text ends : List ℕ) (s : Spot) → Room s until text ends → Settled m (s .d)
+    → Strolling t m until text ends s ends (s .d) (s .n) (s .i)
+set-out t m until text ends s o settled =
+    let e : s .at ≡ s .at + (s .i - s .i) = omega arith in
+    let w : s .i ≤ length text = omega (arith, o .left, o .within) in
+    let g : Going t m text ends (s .d) (s .at) (s .n) (s .i) ends (s .d) (s .at + (s .i - s .i)) (s .n) (s .i) =
+    subst (λ (k : ℕ). Going t m text ends (s .d) (s .at) (s .n) (s .i) ends (s .d) k (s .n) (s .i)) e (begun t m text ends (s .d) (s .at) (s .n) (s .i) w) in
+    record { going = g; settled = settled; far = o .within; fore = omega arith; within = w; fits = o .fits; behind = o .behind; room = o .room }
 
-module _ {t : List ℕ} {m : Masks} {text ends₀ ends : List ℕ} {d₀ at₀ n₀ i₀ d at n i until : ℕ}
-    (g : Strolling t m until text ends₀ d₀ at₀ n₀ i₀ ends d at n i) where
+module _ {t : List ℕ} {m : Masks} {text ends₀ ends : List ℕ} {s : Spot} {d n i until : ℕ} (g : Strolling t m until text ends₀ s ends d n i) where
   module _ {b d′ : ℕ} (l : i < until) (eb : b ≡ getD text i 0) (es : StepsTo m d (getD t b 0) d′) where
     h : i < length text
     h = omega (arith, g .far)
 
-    pub stroll-passed : {r : Bool} → r ≡ topBit (m .top) d′ → r ≡ false → Strolling t m until text ends₀ d₀ at₀ n₀ i₀ ends d′ (at + 1) n (i + 1)
-    stroll-passed er z = record { going = passed (g .going) h eb (es .is) er z; far = g .far; settled = es .settles }
+    next : s .at + (i - s .i) + 1 ≡ s .at + (i + 1 - s .i)
+    next = omega (arith, g .fore)
 
-    pub stroll-ended : {r : Bool} → r ≡ topBit (m .top) d′ → r ≡ true
-        → Strolling t m until text ends₀ d₀ at₀ n₀ i₀ (set ends n (at + 1)) d′ (at + 1) (n + 1) (i + 1)
-    stroll-ended er z = record { going = ended (g .going) h eb (es .is) er z; far = g .far; settled = es .settles }
+    pub stroll-passed : {r : Bool} → r ≡ topBit (m .top) d′ → r ≡ false → Strolling t m until text ends₀ s ends d′ n (i + 1)
+    stroll-passed er z = record {
+      going = subst (λ (k : ℕ). Going t m text ends₀ (s .d) (s .at) (s .n) (s .i) ends d′ k n (i + 1)) next (passed (g .going) h eb (es .is) er z);
+      settled = es .settles;
+      far = g .far;
+      fore = omega (arith, g .fore);
+      within = omega arith;
+      fits = g .fits;
+      behind = omega (arith, g .behind);
+      room = g .room;
+    }
 
-    pub stroll-stopped : {r : Bool} → r ≡ topBit (m .top) d′ → r ≡ false
-        → Walked t m text ends₀ d₀ at₀ n₀ i₀ (record { d = d′; at = at + 1; n = n; i = i + 1 }) ends
-    stroll-stopped er z = stopped (g .going) h eb (es .is) er z
+    pub stroll-ended : {r : Bool} {p : ℕ} → r ≡ topBit (m .top) d′ → r ≡ true → p ≡ s .at + (i + 1 - s .i)
+        → Strolling t m until text ends₀ s (set ends n p) d′ (n + 1) (i + 1)
+    stroll-ended {r} {p} er z ep = record {
+      going =
+          subst (λ (k : ℕ). Going t m text ends₀ (s .d) (s .at) (s .n) (s .i) (set ends n k) d′ (s .at + (i + 1 - s .i)) (n + 1) (i + 1)) (sym ep)
+          (subst (λ (k : ℕ). Going t m text ends₀ (s .d) (s .at) (s .n) (s .i) (set ends n k) d′ k (n + 1) (i + 1)) next (ended (g .going) h eb (es .is) er z));
+      settled = es .settles;
+      far = g .far;
+      fore = omega (arith, g .fore);
+      within = omega arith;
+      fits = g .fits;
+      behind = omega (arith, g .behind);
+      room = omega (arith, g .room, length-set ends n p);
+    }
 
-  pub stroll-over : i₀ < until → until ≤ i → Walked t m text ends₀ d₀ at₀ n₀ i₀ (record { d = d; at = at; n = n; i = i }) ends
-  stroll-over h s = walked (g .going) (omega arith)
+    pub stroll-stopped : {r : Bool} {p : ℕ} → r ≡ topBit (m .top) d′ → r ≡ false → p ≡ s .at + (i + 1 - s .i)
+        → Walked t m text ends₀ (s .d) (s .at) (s .n) (s .i) (record { d = d′; at = p; n = n; i = i + 1 }) ends
+    stroll-stopped {r} {p} er z ep =
+        subst (λ (k : ℕ). Walked t m text ends₀ (s .d) (s .at) (s .n) (s .i) (record { d = d′; at = k; n = n; i = i + 1 }) ends) (next ∙ sym ep)
+        (stopped (g .going) h eb (es .is) er z)
+
+  pub stroll-over : {p : ℕ} → p ≡ s .at + (i - s .i) → s .i < until → until ≤ i
+      → Walked t m text ends₀ (s .d) (s .at) (s .n) (s .i) (record { d = d; at = p; n = n; i = i }) ends
+  stroll-over {p} ep h u =
+      subst (λ (k : ℕ). Walked t m text ends₀ (s .d) (s .at) (s .n) (s .i) (record { d = d; at = k; n = n; i = i }) ends) (sym ep) (walked (g .going) (omega arith))
 
 -- the same after bytes at which the state stays
-module _ {t : List ℕ} {m : Masks} {text ends₀ ends : List ℕ} {d₀ at₀ n₀ i₀ d at n i j until : ℕ}
-    (g : Strolling t m until text ends₀ d₀ at₀ n₀ i₀ ends d at n i) (p : Stayed t m d until text i j) where
-  on : Strolling t m until text ends₀ d₀ at₀ n₀ i₀ ends d (at + (j - i)) n j
-  on = record { going = leapt (g .going) (p .passed) (omega (arith, p .passed .fore)); far = g .far; settled = g .settled }
+module _ {t : List ℕ} {m : Masks} {text ends₀ ends : List ℕ} {s : Spot} {d n i j until : ℕ} (g : Strolling t m until text ends₀ s ends d n i)
+    (p : Stayed t m d until text i j) where
+  on : Strolling t m until text ends₀ s ends d n j
+  on = record {
+    going = leapt (g .going) (p .passed) (omega (arith, p .passed .fore, g .fore));
+    settled = g .settled;
+    far = g .far;
+    fore = omega (arith, p .passed .fore, g .fore);
+    within = p .passed .within;
+    fits = g .fits;
+    behind = omega (arith, p .passed .fore, g .behind);
+    room = g .room;
+  }
 
-  pub stay-over : i₀ < until → j ≡ until → Walked t m text ends₀ d₀ at₀ n₀ i₀ (record { d = d; at = at + (j - i); n = n; i = j }) ends
-  stay-over h e = walked (on .going) (omega arith)
+  pub stay-over : {q : ℕ} → q ≡ s .at + (j - s .i) → s .i < until → j ≡ until
+      → Walked t m text ends₀ (s .d) (s .at) (s .n) (s .i) (record { d = d; at = q; n = n; i = j }) ends
+  stay-over eq h e = stroll-over on eq h (omega arith)
 
   module _ {b d′ : ℕ} (h : j ≡ until → ⊥) (eb : b ≡ getD text j 0) (es : StepsTo m d (getD t b 0) d′) where
     left : j < until
     left = omega (arith, p .short)
 
-    pub stay-passed : {r : Bool} → r ≡ topBit (m .top) d′ → r ≡ false → Strolling t m until text ends₀ d₀ at₀ n₀ i₀ ends d′ (at + (j - i) + 1) n (j + 1)
+    pub stay-passed : {r : Bool} → r ≡ topBit (m .top) d′ → r ≡ false → Strolling t m until text ends₀ s ends d′ n (j + 1)
     stay-passed er z = stroll-passed on left eb es er z
 
-    pub stay-ended : {r : Bool} → r ≡ topBit (m .top) d′ → r ≡ true
-        → Strolling t m until text ends₀ d₀ at₀ n₀ i₀ (set ends n (at + (j - i) + 1)) d′ (at + (j - i) + 1) (n + 1) (j + 1)
-    stay-ended er z = stroll-ended on left eb es er z
+    pub stay-ended : {r : Bool} {q : ℕ} → r ≡ topBit (m .top) d′ → r ≡ true → q ≡ s .at + (j + 1 - s .i)
+        → Strolling t m until text ends₀ s (set ends n q) d′ (n + 1) (j + 1)
+    stay-ended er z eq = stroll-ended on left eb es er z eq
 
-    pub stay-stopped : {r : Bool} → r ≡ topBit (m .top) d′ → r ≡ false
-        → Walked t m text ends₀ d₀ at₀ n₀ i₀ (record { d = d′; at = at + (j - i) + 1; n = n; i = j + 1 }) ends
-    stay-stopped er z = stroll-stopped on left eb es er z
+    pub stay-stopped : {r : Bool} {q : ℕ} → r ≡ topBit (m .top) d′ → r ≡ false → q ≡ s .at + (j + 1 - s .i)
+        → Walked t m text ends₀ (s .d) (s .at) (s .n) (s .i) (record { d = d′; at = q; n = n; i = j + 1 }) ends
+    stay-stopped er z eq = stroll-stopped on left eb es er z eq
 
 -- one byte alone
 module _ {t : List ℕ} {m : Masks} {text ends : List ℕ} {s : Spot} {b d′ : ℕ} (room : Room s (length text) text ends) (eb : b ≡ getD text (s .i) 0)

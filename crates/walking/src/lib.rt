@@ -2,7 +2,7 @@
 // any table and masks. A walk promises what the formula gives byte by byte; it floods only where that
 // changes something.
 ghost use mathlib.Core.Path.{_≡_};
-ghost use Prim.Native.Nat.{_<_, _≤_};
+ghost use Prim.Native.Nat.{_+_, _-_, _^_, _<_, _≤_};
 ghost use lib.ListN.{length};
 ghost use Rattle.steps.specs.Settling.{BlocksOf, Settled};
 ghost use Rattle.walking.specs.Walking.{Walked, Stayed, Room};
@@ -16,6 +16,17 @@ pub struct Spot {
     pub at: u32,
     pub n: usize,
     pub i: usize,
+}
+
+// How many bytes stand before the byte at i: it is not counted byte by byte, which would take a register
+// of the walks.
+pub fn place(s: Spot, i: usize) -> u32
+    requires { ⌜ s .i ≤ i ⌝ }
+    requires { ⌜ s .at + i < 2 ^ 32 + s .i ⌝ }
+    ensures { λ r. ⌜ r ≡ s .at + (i - s .i) ⌝ }
+{
+    let gone = (i - s.i) as u32;
+    s.at + gone
 }
 
 // Steps from a place on, where no position is optional but leading ones, up to `until` or, at `stop` or
@@ -40,22 +51,20 @@ fn walk_plain(
     ensures { λ r. ⌜ Walked (now (table .entry)) m (now (text .entry)) (now (ends .entry)) (s .d) (s .at) (s .n) (s .i) r (now (ends .exit)) ⌝ }
 {
     let mut d = s.d;
-    let mut at = s.at;
     let mut n = s.n;
     let mut i = s.i;
     while i < until {
         let c = looks::index(text[i]);
         d = steps::step_plain(d, table[c], m, q);
-        at += 1;
         i += 1;
         if words::reports(d, m.top) {
-            ends[n] = at;
+            ends[n] = place(s, i);
             n += 1;
         } else if d == home {
             if stop <= i {
                 return Spot {
                     d: d,
-                    at: at,
+                    at: place(s, i),
                     n: n,
                     i: i,
                 };
@@ -64,7 +73,7 @@ fn walk_plain(
     }
     Spot {
         d: d,
-        at: at,
+        at: place(s, i),
         n: n,
         i: i,
     }
@@ -90,22 +99,20 @@ fn walk_over(
     ensures { λ r. ⌜ Walked (now (table .entry)) m (now (text .entry)) (now (ends .entry)) (s .d) (s .at) (s .n) (s .i) r (now (ends .exit)) ⌝ }
 {
     let mut d = s.d;
-    let mut at = s.at;
     let mut n = s.n;
     let mut i = s.i;
     while i < until {
         let c = looks::index(text[i]);
         d = steps::step_over(d, table[c], m, q);
-        at += 1;
         i += 1;
         if words::reports(d, m.top) {
-            ends[n] = at;
+            ends[n] = place(s, i);
             n += 1;
         } else if d == home {
             if stop <= i {
                 return Spot {
                     d: d,
-                    at: at,
+                    at: place(s, i),
                     n: n,
                     i: i,
                 };
@@ -114,7 +121,7 @@ fn walk_over(
     }
     Spot {
         d: d,
-        at: at,
+        at: place(s, i),
         n: n,
         i: i,
     }
@@ -164,33 +171,29 @@ fn walk_staying(
     ensures { λ r. ⌜ Walked (now (table .entry)) m (now (text .entry)) (now (ends .entry)) (s .d) (s .at) (s .n) (s .i) r (now (ends .exit)) ⌝ }
 {
     let mut d = s.d;
-    let mut at = s.at;
     let mut n = s.n;
     let mut i = s.i;
     while i < until {
         let j = staying(table, m, q, d, until, text, i);
-        let stayed = (j - i) as u32;
-        let here = at + stayed;
         if j == until {
             return Spot {
                 d: d,
-                at: here,
+                at: place(s, j),
                 n: n,
                 i: j,
             };
         }
         let c = looks::index(text[j]);
         d = steps::step_over(d, table[c], m, q);
-        at = here + 1;
         i = j + 1;
         if words::reports(d, m.top) {
-            ends[n] = at;
+            ends[n] = place(s, i);
             n += 1;
         } else if d == home {
             if stop <= i {
                 return Spot {
                     d: d,
-                    at: at,
+                    at: place(s, i),
                     n: n,
                     i: i,
                 };
@@ -199,7 +202,7 @@ fn walk_staying(
     }
     Spot {
         d: d,
-        at: at,
+        at: place(s, i),
         n: n,
         i: i,
     }

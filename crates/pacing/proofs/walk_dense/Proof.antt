@@ -7,10 +7,10 @@ use Rattle.pacing.proofs.walk_dense.Statement.{statement}
 use Rattle.pacing.proofs.walk_dense.Tie as tie
 
 abbrev Inv-loop : tie.InvT-loop
-Inv-loop table m q until text ends₀ d₀ at₀ n₀ i₀ ends d at n i = Strolling table m until text ends₀ d₀ at₀ n₀ i₀ ends d at n i
+Inv-loop table m q until text ends₀ s d₀ n₀ i₀ ends d n i = Strolling table m until text ends₀ s ends d n i
 
 abbrev μ-loop : tie.MeasureT-loop
-μ-loop table m q until text ends₀ d₀ at₀ n₀ i₀ ends d at n i = until - i
+μ-loop table m q until text ends₀ s d₀ n₀ i₀ ends d n i = until - i
 
 loop-holds : tie.Need-loop-holds Inv-loop μ-loop
 loop-holds c = search set-out
@@ -30,14 +30,14 @@ shared-slice-read-step-free c = search needs
 step-free-requires : tie.Need-step-free-requires Inv-loop μ-loop
 step-free-requires c κs = search needs
 
-add-at : tie.Need-add-at Inv-loop μ-loop
-add-at c = search needs
-
 add-i : tie.Need-add-i Inv-loop μ-loop
 add-i c = search needs
 
 report-bit-requires : tie.Need-report-bit-requires Inv-loop μ-loop
 report-bit-requires c κs = search needs
+
+place-requires : tie.Need-place-requires Inv-loop μ-loop
+place-requires c κs = search needs
 
 mul-pick : tie.Need-mul-pick Inv-loop μ-loop
 mul-pick c = search needs
@@ -63,6 +63,9 @@ loop-less c = search needs
 loop-again : tie.Need-loop-again Inv-loop μ-loop
 loop-again c = search stroll-dense
 
+place-requires-2 : tie.Need-place-requires-2 Inv-loop μ-loop
+place-requires-2 c κs = search needs
+
 same-length : tie.Need-same-length Inv-loop μ-loop
 same-length c = search needs
 
@@ -81,9 +84,9 @@ walk-dense-spec =
     mul-step-free
     shared-slice-read-step-free
     step-free-requires
-    add-at
     add-i
     report-bit-requires
+    place-requires
     mul-pick
     slice-read-pick
     pick-requires
@@ -92,5 +95,6 @@ walk-dense-spec =
     add-n
     loop-less
     loop-again
+    place-requires-2
     same-length
     returns)

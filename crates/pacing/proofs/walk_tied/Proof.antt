@@ -6,10 +6,10 @@ use Rattle.pacing.proofs.walk_tied.Statement.{statement}
 use Rattle.pacing.proofs.walk_tied.Tie as tie
 
 abbrev Inv-loop : tie.InvT-loop
-Inv-loop table m q until text ends₀ d₀ at₀ n₀ i₀ ends d at n i = Strolling table m until text ends₀ d₀ at₀ n₀ i₀ ends d at n i
+Inv-loop table m q until text ends₀ s d₀ n₀ i₀ ends d n i = Strolling table m until text ends₀ s ends d n i
 
 abbrev μ-loop : tie.MeasureT-loop
-μ-loop table m q until text ends₀ d₀ at₀ n₀ i₀ ends d at n i = until - i
+μ-loop table m q until text ends₀ s d₀ n₀ i₀ ends d n i = until - i
 
 loop-holds : tie.Need-loop-holds Inv-loop μ-loop
 loop-holds c = search set-out
@@ -29,14 +29,14 @@ shared-slice-read-step-flooding c = search needs
 step-flooding-requires : tie.Need-step-flooding-requires Inv-loop μ-loop
 step-flooding-requires c κs = search needs
 
-add-at : tie.Need-add-at Inv-loop μ-loop
-add-at c = search needs
-
 add-i : tie.Need-add-i Inv-loop μ-loop
 add-i c = search needs
 
 reports-requires : tie.Need-reports-requires Inv-loop μ-loop
 reports-requires c κs = search needs
+
+place-requires : tie.Need-place-requires Inv-loop μ-loop
+place-requires c κs = search needs
 
 mul-ends : tie.Need-mul-ends Inv-loop μ-loop
 mul-ends c = search needs
@@ -59,6 +59,9 @@ loop-less-2 c = search needs
 loop-again-2 : tie.Need-loop-again-2 Inv-loop μ-loop
 loop-again-2 c = search stroll-passed
 
+place-requires-2 : tie.Need-place-requires-2 Inv-loop μ-loop
+place-requires-2 c κs = search needs
+
 same-length : tie.Need-same-length Inv-loop μ-loop
 same-length c = search needs
 
@@ -77,9 +80,9 @@ walk-tied-spec =
     mul-step-flooding
     shared-slice-read-step-flooding
     step-flooding-requires
-    add-at
     add-i
     reports-requires
+    place-requires
     mul-ends
     slice-write-ends
     add-n
@@ -87,5 +90,6 @@ walk-tied-spec =
     loop-again
     loop-less-2
     loop-again-2
+    place-requires-2
     same-length
     returns)

@@ -1,15 +1,15 @@
 -- `walking::walk_over` meets its contract. Its laws are in this crate's `proofs/`; `search LAW` finds a law's premises in `c`. Assumes nothing.
-use borrow.Author.Needs.{needs}
 use Prim.Native.Nat.{_-_}
 use Rattle.walking.proofs.Turns.{Strolling, set-out, stroll-passed, stroll-ended, stroll-stopped, stroll-over}
+use borrow.Author.Needs.{needs}
 use Rattle.walking.proofs.walk_over.Statement.{statement}
 use Rattle.walking.proofs.walk_over.Tie as tie
 
 abbrev Inv-loop : tie.InvT-loop
-Inv-loop t m q home stop until text ends₀ d₀ at₀ n₀ i₀ ends d at n i = Strolling t m until text ends₀ d₀ at₀ n₀ i₀ ends d at n i
+Inv-loop table m q home stop until text ends₀ s d₀ n₀ i₀ ends d n i = Strolling table m until text ends₀ s ends d n i
 
 abbrev μ-loop : tie.MeasureT-loop
-μ-loop t m q home stop until text ends₀ d₀ at₀ n₀ i₀ ends d at n i = until - i
+μ-loop table m q home stop until text ends₀ s d₀ n₀ i₀ ends d n i = until - i
 
 loop-holds : tie.Need-loop-holds Inv-loop μ-loop
 loop-holds c = search set-out
@@ -29,14 +29,14 @@ shared-slice-read-step-over c = search needs
 step-over-requires : tie.Need-step-over-requires Inv-loop μ-loop
 step-over-requires c κs = search needs
 
-add-at : tie.Need-add-at Inv-loop μ-loop
-add-at c = search needs
-
 add-i : tie.Need-add-i Inv-loop μ-loop
 add-i c = search needs
 
 reports-requires : tie.Need-reports-requires Inv-loop μ-loop
 reports-requires c κs = search needs
+
+place-requires : tie.Need-place-requires Inv-loop μ-loop
+place-requires c κs = search needs
 
 mul-ends : tie.Need-mul-ends Inv-loop μ-loop
 mul-ends c = search needs
@@ -52,6 +52,9 @@ loop-less c = search needs
 
 loop-again : tie.Need-loop-again Inv-loop μ-loop
 loop-again c = search stroll-ended
+
+place-requires-2 : tie.Need-place-requires-2 Inv-loop μ-loop
+place-requires-2 c κs = search needs
 
 same-length : tie.Need-same-length Inv-loop μ-loop
 same-length c = search needs
@@ -71,6 +74,9 @@ loop-less-3 c = search needs
 loop-again-3 : tie.Need-loop-again-3 Inv-loop μ-loop
 loop-again-3 c = search stroll-passed
 
+place-requires-3 : tie.Need-place-requires-3 Inv-loop μ-loop
+place-requires-3 c κs = search needs
+
 same-length-2 : tie.Need-same-length-2 Inv-loop μ-loop
 same-length-2 c = search needs
 
@@ -89,19 +95,21 @@ walk-over-spec =
     mul-step-over
     shared-slice-read-step-over
     step-over-requires
-    add-at
     add-i
     reports-requires
+    place-requires
     mul-ends
     slice-write-ends
     add-n
     loop-less
     loop-again
+    place-requires-2
     same-length
     returns
     loop-less-2
     loop-again-2
     loop-less-3
     loop-again-3
+    place-requires-3
     same-length-2
     returns-2)

@@ -6,10 +6,10 @@ use Rattle.walking.proofs.walk_staying.Statement.{statement}
 use Rattle.walking.proofs.walk_staying.Tie as tie
 
 abbrev Inv-loop : tie.InvT-loop
-Inv-loop t m q home stop until text ends₀ d₀ at₀ n₀ i₀ ends d at n i = Strolling t m until text ends₀ d₀ at₀ n₀ i₀ ends d at n i
+Inv-loop table m q home stop until text ends₀ s d₀ n₀ i₀ ends d n i = Strolling table m until text ends₀ s ends d n i
 
 abbrev μ-loop : tie.MeasureT-loop
-μ-loop t m q home stop until text ends₀ d₀ at₀ n₀ i₀ ends d at n i = until - i
+μ-loop table m q home stop until text ends₀ s d₀ n₀ i₀ ends d n i = until - i
 
 loop-holds : tie.Need-loop-holds Inv-loop μ-loop
 loop-holds c = search set-out
@@ -17,14 +17,8 @@ loop-holds c = search set-out
 staying-requires : tie.Need-staying-requires Inv-loop μ-loop
 staying-requires c κs = (search needs, (search needs, (search needs, (search needs, (search needs, search needs)))))
 
-sub-stayed : tie.Need-sub-stayed Inv-loop μ-loop
-sub-stayed c = search needs
-
-cast-stayed : tie.Need-cast-stayed Inv-loop μ-loop
-cast-stayed c = search needs
-
-add-here : tie.Need-add-here Inv-loop μ-loop
-add-here c = search needs
+place-requires : tie.Need-place-requires Inv-loop μ-loop
+place-requires c κs = search needs
 
 same-length : tie.Need-same-length Inv-loop μ-loop
 same-length c = search needs
@@ -47,17 +41,17 @@ shared-slice-read-step-over c = search needs
 step-over-requires : tie.Need-step-over-requires Inv-loop μ-loop
 step-over-requires c κs = search needs
 
-add-at : tie.Need-add-at Inv-loop μ-loop
-add-at c = search needs
-
 add-i : tie.Need-add-i Inv-loop μ-loop
 add-i c = search needs
 
 reports-requires : tie.Need-reports-requires Inv-loop μ-loop
 reports-requires c κs = search needs
 
+place-requires-2 : tie.Need-place-requires-2 Inv-loop μ-loop
+place-requires-2 c κs = search needs
+
 mul-ends : tie.Need-mul-ends Inv-loop μ-loop
-mul-ends c = search needs
+mul-ends c = let l = c .before .before .before .before .before .before .before .before .before .before .before in search (needs, l .slice-known .given)
 
 slice-write-ends : tie.Need-slice-write-ends Inv-loop μ-loop
 slice-write-ends c = search needs
@@ -70,6 +64,9 @@ loop-less c = search needs
 
 loop-again : tie.Need-loop-again Inv-loop μ-loop
 loop-again c = search stay-ended
+
+place-requires-3 : tie.Need-place-requires-3 Inv-loop μ-loop
+place-requires-3 c κs = search needs
 
 same-length-2 : tie.Need-same-length-2 Inv-loop μ-loop
 same-length-2 c = search needs
@@ -89,6 +86,9 @@ loop-less-3 c = search needs
 loop-again-3 : tie.Need-loop-again-3 Inv-loop μ-loop
 loop-again-3 c = search stay-passed
 
+place-requires-4 : tie.Need-place-requires-4 Inv-loop μ-loop
+place-requires-4 c κs = search needs
+
 same-length-3 : tie.Need-same-length-3 Inv-loop μ-loop
 same-length-3 c = search needs
 
@@ -103,9 +103,7 @@ walk-staying-spec =
     μ-loop
     loop-holds
     staying-requires
-    sub-stayed
-    cast-stayed
-    add-here
+    place-requires
     same-length
     returns
     shared-slice-read-index
@@ -113,19 +111,21 @@ walk-staying-spec =
     mul-step-over
     shared-slice-read-step-over
     step-over-requires
-    add-at
     add-i
     reports-requires
+    place-requires-2
     mul-ends
     slice-write-ends
     add-n
     loop-less
     loop-again
+    place-requires-3
     same-length-2
     returns-2
     loop-less-2
     loop-again-2
     loop-less-3
     loop-again-3
+    place-requires-4
     same-length-3
     returns-3)
