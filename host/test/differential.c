@@ -353,6 +353,26 @@ static void make_hostile(void)
     }
 }
 
+/* A rule with optional parts and a long plan of its own letters, on which it cannot be foreseen what a byte changes. */
+static void make_restless(void)
+{
+    static const char *const rules[] = {"[0-9]+[.,]?[0-9]?[0-9]? ?E?U?R", "[0-9]+[.,]?[0-9] ?E?U?R", "ab?c?d?a", "a.*b", "[AZ][az]+ {0,9}[09]+", "xa*y?x"};
+    const char *rule = rules[below(sizeof rules / sizeof rules[0])];
+    char letters[32];
+    uint32_t n = 0;
+
+    now.rule_len = 0;
+    now.fold = 0;
+    put_text(rule);
+    now.read = second_read(now.rule, now.rule_len, now.fold);
+    for (const char *p = rule; *p; p++)
+        if (!strchr(".[]{}?+*-", *p))
+            letters[n++] = *p;
+    now.plan_most = PLAN_MOST;
+    for (now.plan_len = 0; now.plan_len < now.plan_most; now.plan_len++)
+        now.plan[now.plan_len] = (uint8_t)letters[below(n)];
+}
+
 /* A list's or buffer's length: what is needed, one less, none, or more. */
 static size_t list_length(size_t needed)
 {
@@ -488,7 +508,7 @@ static bool try_scan_call(bool finish, const uint8_t *bytes, size_t length)
 static void try_scan(void)
 {
     size_t at = 0;
-    uint32_t longest = one_in(16) && now.plan_len <= 64 ? 1 : 1 + below(30) + (uint32_t)now.plan_len / 4;
+    uint32_t longest = one_in(16) && now.plan_len <= 64 ? 1 : 1 + below(30) + (uint32_t)now.plan_len / (one_in(4) ? 1 : 4);
 
     try_open();
     if (!scanning)
@@ -576,6 +596,8 @@ static void try_case(void)
     lent_in_front = one_in(2);
     if (one_in(700)) {
         make_hostile();
+    } else if (one_in(500)) {
+        make_restless();
     } else {
         make_rule();
         make_plan();
