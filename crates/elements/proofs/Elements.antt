@@ -10,7 +10,6 @@ use borrow.Author.Tests.{le-leb, lt-leb}
 use Rattle.model.specs.RuleText as Model
 use Rattle.model.specs.RuleText.{bad, good, byte, any, class, gap, kindAt, once, optional, repeatable, both, oftenAfter, markBytes, positionLimit}
 use Rattle.elements.specs.declared.Kind.{Kind}
-use Rattle.elements.specs.declared.Spelling.{Spelling}
 use Rattle.elements.specs.declared.Spelling.the-variants.{Spelt, Misspelt}
 use Rattle.elements.specs.declared.Spelled.{Spelled}
 use Rattle.elements.specs.declared.Often.{Often}

@@ -2,7 +2,6 @@
 // rule. Each contract is one record of `specs/Reading.antt`: an equation with the model's own reading
 // of the bytes from that index on, and the bounds that callers want.
 ghost use mathlib.Core.Path.{_≡_};
-ghost use mathlib.Core.Bool.{Bool};
 ghost use Prim.Native.Nat.{_≤_, _<_};
 ghost use lib.ListN.{getD, length};
 ghost use Rattle.model.specs.RuleText.{mayEscape, positionLimit};

@@ -2,7 +2,6 @@
 // sorts the input into both, however long it is and in whatever pieces it comes; `list` prints what
 // the finder answers.
 ghost use Prim.Native.Nat.{_≤_};
-ghost use lib.ListN.{length};
 use references::Answer;
 
 // Bytes of the rule that are kept: one more than a rule may have, so that a longer one is refused.

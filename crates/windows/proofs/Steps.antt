@@ -6,13 +6,11 @@ use Prim.Native.Nat.{ℕ, suc, _-_}
 use lib.ListN.{getD}
 use Rattle.model.specs.Occurrence.{Position, oneIf}
 use Rattle.model.proofs.Law.{nth, stepBit, Steps}
-use Rattle.model.proofs.Searches as Searches
 use Rattle.words.specs.Bit.{bit}
 use Rattle.words.specs.ForwardStep.{onByte}
 use Rattle.words.specs.Masks.{admitsMask}
 use Rattle.words.proofs.Digits.{none-bit}
 use Rattle.words.proofs.MaskLaws.{mask-bit}
-use Rattle.words.proofs.Bridge as Bridge
 use Rattle.steps.specs.declared.Masks.{Masks}
 use Rattle.steps.specs.Stepping.{stepN}
 

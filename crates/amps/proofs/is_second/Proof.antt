@@ -2,8 +2,6 @@
 use borrow.Author.Needs.{needs}
 use Rattle.amps.proofs.is_second.Statement.{statement}
 use Rattle.amps.proofs.is_second.Tie as tie
-use Rattle.amps.proofs.is_second.Reads as reads
-use Rattle.amps.proofs.is_second.Lts as lts
 
 returns : tie.Need-returns
 returns c = search needs

@@ -3,9 +3,6 @@ use Rattle.amps.proofs.AmpLaws.{verbatim-amp, verbatim-last, verbatim-a
 use borrow.Author.Needs.{needs}
 use Rattle.amps.proofs.verbatim.Statement.{statement}
 use Rattle.amps.proofs.verbatim.Tie as tie
-use Rattle.amps.proofs.verbatim.Reads as reads
-use Rattle.amps.proofs.verbatim.Lts as lts
-use Rattle.amps.proofs.find_amp.Reads as find-amp-reads
 
 sub-last : tie.Need-sub-last
 sub-last c = search needs

@@ -7,10 +7,6 @@ use Rattle.feeding.proofs.Pieces.{code-long, code-bytes, coded}
 use borrow.Author.Needs.{needs}
 use Rattle.feeding.proofs.code_through.Statement.{statement}
 use Rattle.feeding.proofs.code_through.Tie as tie
-use Rattle.feeding.proofs.code_through.Reads as reads
-use Rattle.feeding.proofs.code_through.Lts as lts
-use Rattle.feeding.proofs.run_through.Reads as run-through-reads
-use Rattle.references.proofs.put_utf8.Reads as put-utf8-reads
 
 slice-aggregate-put-utf8 : tie.Need-slice-aggregate-put-utf8
 slice-aggregate-put-utf8 c = search needs

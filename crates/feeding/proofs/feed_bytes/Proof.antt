@@ -4,12 +4,6 @@ use Rattle.feeding.proofs.Heads.{held-few, held-fits, code-fits, fed-co
 use borrow.Author.Needs.{needs}
 use Rattle.feeding.proofs.feed_bytes.Statement.{statement}
 use Rattle.feeding.proofs.feed_bytes.Tie as tie
-use Rattle.feeding.proofs.feed_bytes.Reads as reads
-use Rattle.feeding.proofs.feed_bytes.Lts as lts
-use Rattle.feeding.proofs.code_through.Reads as code-through-reads
-use Rattle.feeding.proofs.feed_rest.Reads as feed-rest-reads
-use Rattle.feeding.proofs.run_through.Reads as run-through-reads
-use Rattle.references.proofs.cross.Reads as cross-reads
 
 plan-of-requires : tie.Need-plan-of-requires
 plan-of-requires c κs = search needs

@@ -3,10 +3,6 @@ use Rattle.feeding.proofs.Heads.{rest-fed}
 use borrow.Author.Needs.{needs}
 use Rattle.feeding.proofs.feed_rest.Statement.{statement}
 use Rattle.feeding.proofs.feed_rest.Tie as tie
-use Rattle.feeding.proofs.feed_rest.Reads as reads
-use Rattle.feeding.proofs.feed_rest.Lts as lts
-use Rattle.feeding.proofs.scan_rest.Reads as scan-rest-reads
-use Rattle.references.proofs.join.Reads as join-reads
 
 scan-rest-requires : tie.Need-scan-rest-requires
 scan-rest-requires c κs = search needs

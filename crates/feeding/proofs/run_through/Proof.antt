@@ -3,9 +3,6 @@ use Rattle.feeding.proofs.Steps.{stepped}
 use borrow.Author.Needs.{needs}
 use Rattle.feeding.proofs.run_through.Statement.{statement}
 use Rattle.feeding.proofs.run_through.Tie as tie
-use Rattle.feeding.proofs.run_through.Reads as reads
-use Rattle.feeding.proofs.run_through.Lts as lts
-use Rattle.stepping.proofs.run.Reads as run-reads
 
 mul-run : tie.Need-mul-run
 mul-run c = search needs

@@ -6,9 +6,6 @@ use Rattle.feeding.proofs.Pieces.{Resting, resting, rest-open, rest-tur
 use borrow.Author.Needs.{needs}
 use Rattle.feeding.proofs.scan_rest.Statement.{statement}
 use Rattle.feeding.proofs.scan_rest.Tie as tie
-use Rattle.feeding.proofs.scan_rest.Reads as reads
-use Rattle.feeding.proofs.scan_rest.Lts as lts
-use Rattle.feeding.proofs.token.Reads as token-reads
 
 abbrev Inv-loop : tie.InvT-loop
 Inv-loop table masks plan piece from ends₀ s₀ i₀ ends s i = Resting table masks s₀ piece from ends₀ s i ends

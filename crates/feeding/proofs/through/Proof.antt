@@ -1,10 +1,6 @@
 use borrow.Author.Needs.{needs}
 use Rattle.feeding.proofs.through.Statement.{statement}
 use Rattle.feeding.proofs.through.Tie as tie
-use Rattle.feeding.proofs.through.Reads as reads
-use Rattle.feeding.proofs.through.Lts as lts
-use Rattle.feeding.proofs.run_through.Reads as run-through-reads
-use Rattle.plans.proofs.plan_of.Reads as plan-of-reads
 
 plan-of-requires : tie.Need-plan-of-requires
 plan-of-requires c κs = search needs

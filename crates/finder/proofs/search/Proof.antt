@@ -3,12 +3,6 @@ use Rattle.finder.proofs.Parts.{search-refused, search-not-whole, searc
 use borrow.Author.Needs.{needs}
 use Rattle.finder.proofs.search.Statement.{statement}
 use Rattle.finder.proofs.search.Tie as tie
-use Rattle.finder.proofs.search.Reads as reads
-use Rattle.finder.proofs.search.Lts as lts
-use Rattle.finder.proofs.answer.Reads as answer-reads
-use Rattle.finder.proofs.search_accepted.Reads as search-accepted-reads
-use Rattle.finder.proofs.whole.Reads as whole-reads
-use Rattle.rules.proofs.prepare.Reads as prepare-reads
 
 prepare-requires : tie.Need-prepare-requires
 prepare-requires c κs = search needs

@@ -6,13 +6,6 @@ use Rattle.finder.proofs.Parts.{bytes-known, fillable, back-fits, rule-
 use borrow.Author.Needs.{needs}
 use Rattle.finder.proofs.search_accepted.Statement.{statement}
 use Rattle.finder.proofs.search_accepted.Tie as tie
-use Rattle.finder.proofs.search_accepted.Reads as reads
-use Rattle.finder.proofs.search_accepted.Lts as lts
-use Rattle.finder.proofs.answer.Reads as answer-reads
-use Rattle.finder.proofs.rule_of.Reads as rule-of-reads
-use Rattle.rules.proofs.tables.fill.Reads as fill-reads
-use Rattle.searches.proofs.search_tables.Reads as search-tables-reads
-use Rattle.windows.proofs.first_steps.Reads as first-steps-reads
 
 rule-of-requires : tie.Need-rule-of-requires
 rule-of-requires c κs = search needs

@@ -3,9 +3,6 @@ use Rattle.finder.proofs.Shows.{shown-bytes}
 use borrow.Author.Needs.{needs}
 use Rattle.finder.proofs.show.Statement.{statement}
 use Rattle.finder.proofs.show.Tie as tie
-use Rattle.finder.proofs.show.Reads as reads
-use Rattle.finder.proofs.show.Lts as lts
-use Rattle.finder.proofs.span.Reads as span-reads
 
 span-requires : tie.Need-span-requires
 span-requires c κs = search needs

@@ -3,10 +3,6 @@ use Rattle.finder.proofs.Shows.{shown-refused, shown-long, shown-past, 
 use borrow.Author.Needs.{needs}
 use Rattle.finder.proofs.span.Statement.{statement}
 use Rattle.finder.proofs.span.Tie as tie
-use Rattle.finder.proofs.span.Reads as reads
-use Rattle.finder.proofs.span.Lts as lts
-use Rattle.finder.proofs.span_accepted.Reads as span-accepted-reads
-use Rattle.rules.proofs.prepare.Reads as prepare-reads
 
 prepare-requires : tie.Need-prepare-requires
 prepare-requires c κs = search needs

@@ -5,11 +5,6 @@ use Rattle.finder.proofs.Shows.{shown-fillable, part-shown}
 use borrow.Author.Needs.{needs}
 use Rattle.finder.proofs.span_accepted.Statement.{statement}
 use Rattle.finder.proofs.span_accepted.Tie as tie
-use Rattle.finder.proofs.span_accepted.Reads as reads
-use Rattle.finder.proofs.span_accepted.Lts as lts
-use Rattle.finder.proofs.rule_of.Reads as rule-of-reads
-use Rattle.rules.proofs.tables.fill.Reads as fill-reads
-use Rattle.searches.proofs.part_from.Reads as part-from-reads
 
 rule-of-requires : tie.Need-rule-of-requires
 rule-of-requires c κs = search needs

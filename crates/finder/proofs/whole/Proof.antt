@@ -2,8 +2,6 @@
 use Rattle.finder.proofs.Parts.{whole-10, whole-9, whole-0}
 use Rattle.finder.proofs.whole.Statement.{statement}
 use Rattle.finder.proofs.whole.Tie as tie
-use Rattle.finder.proofs.whole.Reads as reads
-use Rattle.finder.proofs.whole.Lts as lts
 
 returns : tie.Need-returns
 returns c = search whole-10

@@ -2,11 +2,6 @@ use borrow.Author.Needs.{needs}
 use Rattle.rules.proofs.Encoded.{may-fill}
 use Rattle.rules_examples.proofs.show_tables.Statement.{statement}
 use Rattle.rules_examples.proofs.show_tables.Tie as tie
-use Rattle.rules_examples.proofs.show_tables.Reads as reads
-use Rattle.rules_examples.proofs.show_tables.Lts as lts
-use Rattle.rules.proofs.tables.fill.Reads as fill-reads
-use Rattle.rules.proofs.tables.mirrored.Reads as mirrored-reads
-use Rattle.rules_examples.proofs.mask.Reads as mask-reads
 
 -- src/main.rt:29:5
 mask-requires : tie.Need-mask-requires

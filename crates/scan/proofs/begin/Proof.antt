@@ -3,10 +3,6 @@ use Rattle.scan.proofs.Opens.{begin-is, begin-long}
 use borrow.Author.Needs.{needs}
 use Rattle.scan.proofs.begin.Statement.{statement}
 use Rattle.scan.proofs.begin.Tie as tie
-use Rattle.scan.proofs.begin.Reads as reads
-use Rattle.scan.proofs.begin.Lts as lts
-use Rattle.scan_values.proofs.put.Reads as put-reads
-use Rattle.words.proofs.opening.Reads as opening-reads
 
 slice-write-scan : tie.Need-slice-write-scan
 slice-write-scan c = search needs

@@ -3,11 +3,6 @@ use Rattle.scan.proofs.Outcomes.{feed-refused, feed-let-in, feed-done}
 use borrow.Author.Needs.{needs}
 use Rattle.scan.proofs.feed.Statement.{statement}
 use Rattle.scan.proofs.feed.Tie as tie
-use Rattle.scan.proofs.feed.Reads as reads
-use Rattle.scan.proofs.feed.Lts as lts
-use Rattle.scan.proofs.feed_accepted.Reads as feed-accepted-reads
-use Rattle.scan.proofs.refusal.Reads as refusal-reads
-use Rattle.scan_values.proofs.refused.Reads as refused-reads
 
 refused-requires : tie.Need-refused-requires
 refused-requires c κs = search needs

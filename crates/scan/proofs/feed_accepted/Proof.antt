@@ -7,13 +7,6 @@ use Rattle.scan.proofs.Outcomes.{held-fine, fits, feed-stored, feed-cou
 use borrow.Author.Needs.{needs}
 use Rattle.scan.proofs.feed_accepted.Statement.{statement}
 use Rattle.scan.proofs.feed_accepted.Tie as tie
-use Rattle.scan.proofs.feed_accepted.Reads as reads
-use Rattle.scan.proofs.feed_accepted.Lts as lts
-use Rattle.feeding.proofs.feed_bytes.Reads as feed-bytes-reads
-use Rattle.scan.proofs.start.Reads as start-reads
-use Rattle.scan_values.proofs.load.Reads as load-reads
-use Rattle.scan_values.proofs.masks_of.Reads as masks-of-reads
-use Rattle.scan_values.proofs.put.Reads as put-reads
 
 masks-of-requires : tie.Need-masks-of-requires
 masks-of-requires c κs = search needs

@@ -3,11 +3,6 @@ use Rattle.scan.proofs.Outcomes.{finish-refused, finish-let-in, finish-
 use borrow.Author.Needs.{needs}
 use Rattle.scan.proofs.finish.Statement.{statement}
 use Rattle.scan.proofs.finish.Tie as tie
-use Rattle.scan.proofs.finish.Reads as reads
-use Rattle.scan.proofs.finish.Lts as lts
-use Rattle.scan.proofs.finish_accepted.Reads as finish-accepted-reads
-use Rattle.scan.proofs.refusal.Reads as refusal-reads
-use Rattle.scan_values.proofs.refused.Reads as refused-reads
 
 refused-requires : tie.Need-refused-requires
 refused-requires c κs = search needs

@@ -6,11 +6,6 @@ use Rattle.scan.proofs.Opens.{open-refused, open-11, fillable, open-don
 use borrow.Author.Needs.{needs}
 use Rattle.scan.proofs.open.Statement.{statement}
 use Rattle.scan.proofs.open.Tie as tie
-use Rattle.scan.proofs.open.Reads as reads
-use Rattle.scan.proofs.open.Lts as lts
-use Rattle.rules.proofs.prepare.Reads as prepare-reads
-use Rattle.rules.proofs.tables.fill.Reads as fill-reads
-use Rattle.scan.proofs.begin.Reads as begin-reads
 
 prepare-requires : tie.Need-prepare-requires
 prepare-requires c κs = search needs

@@ -2,8 +2,6 @@
 use borrow.Author.Needs.{needs}
 use Rattle.scan.proofs.start.Statement.{statement}
 use Rattle.scan.proofs.start.Tie as tie
-use Rattle.scan.proofs.start.Reads as reads
-use Rattle.scan.proofs.start.Lts as lts
 
 shared-slice-read-d : tie.Need-shared-slice-read-d
 shared-slice-read-d c = search needs

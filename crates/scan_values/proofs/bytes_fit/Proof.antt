@@ -4,8 +4,6 @@ use Rattle.scan_values.proofs.Checks.{Fitting, fitting, not-fit, fit-tu
 use borrow.Author.Needs.{needs}
 use Rattle.scan_values.proofs.bytes_fit.Statement.{statement}
 use Rattle.scan_values.proofs.bytes_fit.Tie as tie
-use Rattle.scan_values.proofs.bytes_fit.Reads as reads
-use Rattle.scan_values.proofs.bytes_fit.Lts as lts
 
 abbrev Inv-loop : tie.InvT-loop
 Inv-loop scan j₀ j = Fitting scan j

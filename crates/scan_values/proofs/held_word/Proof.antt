@@ -3,8 +3,6 @@ use Rattle.scan_values.proofs.Fields.{word-in, word-past}
 use borrow.Author.Needs.{needs}
 use Rattle.scan_values.proofs.held_word.Statement.{statement}
 use Rattle.scan_values.proofs.held_word.Tie as tie
-use Rattle.scan_values.proofs.held_word.Reads as reads
-use Rattle.scan_values.proofs.held_word.Lts as lts
 
 array-read-result : tie.Need-array-read-result
 array-read-result c = search needs

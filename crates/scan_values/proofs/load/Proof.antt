@@ -5,8 +5,6 @@ use Rattle.scan_values.proofs.Fields.{Loading, loading, load-turn, load
 use borrow.Author.Needs.{needs}
 use Rattle.scan_values.proofs.load.Statement.{statement}
 use Rattle.scan_values.proofs.load.Tie as tie
-use Rattle.scan_values.proofs.load.Reads as reads
-use Rattle.scan_values.proofs.load.Lts as lts
 
 abbrev Inv-loop : tie.InvT-loop
 Inv-loop scan n t₀ j₀ t j = Loading scan t n j

@@ -3,11 +3,6 @@ use Rattle.scan_values.proofs.Checks.{length-wrong, no-position, positi
 use borrow.Author.Needs.{needs}
 use Rattle.scan_values.proofs.possible.Statement.{statement}
 use Rattle.scan_values.proofs.possible.Tie as tie
-use Rattle.scan_values.proofs.possible.Reads as reads
-use Rattle.scan_values.proofs.possible.Lts as lts
-use Rattle.scan_values.proofs.bytes_fit.Reads as bytes-fit-reads
-use Rattle.scan_values.proofs.load.Reads as load-reads
-use Rattle.scan_values.proofs.tail_fits.Reads as tail-fits-reads
 
 returns : tie.Need-returns
 returns c = search length-wrong

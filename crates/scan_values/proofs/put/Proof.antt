@@ -8,9 +8,6 @@ use Rattle.scan_values.proofs.Fields.{put-long, put-all}
 use borrow.Author.Needs.{needs}
 use Rattle.scan_values.proofs.put.Statement.{statement}
 use Rattle.scan_values.proofs.put.Tie as tie
-use Rattle.scan_values.proofs.put.Reads as reads
-use Rattle.scan_values.proofs.put.Lts as lts
-use Rattle.scan_values.proofs.store_held.Reads as store-held-reads
 
 slice-write-scan : tie.Need-slice-write-scan
 slice-write-scan c = search needs

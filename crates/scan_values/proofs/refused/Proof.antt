@@ -4,9 +4,6 @@ use Rattle.scan_values.proofs.Checks.{refused-12, refused-10, refused-9
 use borrow.Author.Needs.{needs}
 use Rattle.scan_values.proofs.refused.Statement.{statement}
 use Rattle.scan_values.proofs.refused.Tie as tie
-use Rattle.scan_values.proofs.refused.Reads as reads
-use Rattle.scan_values.proofs.refused.Lts as lts
-use Rattle.scan_values.proofs.possible.Reads as possible-reads
 
 possible-requires : tie.Need-possible-requires
 possible-requires c κs = search needs

@@ -5,9 +5,6 @@ use Rattle.scan_values.proofs.Fields.{Storing, storing, store-turn, sto
 use borrow.Author.Needs.{needs}
 use Rattle.scan_values.proofs.store_held.Statement.{statement}
 use Rattle.scan_values.proofs.store_held.Tie as tie
-use Rattle.scan_values.proofs.store_held.Reads as reads
-use Rattle.scan_values.proofs.store_held.Lts as lts
-use Rattle.scan_values.proofs.held_word.Reads as held-word-reads
 
 abbrev Inv-loop : tie.InvT-loop
 Inv-loop scan₀ h j₀ scan j = Storing scan₀ (heldOf h) scan j

@@ -5,9 +5,6 @@ use Rattle.scan_values.proofs.Checks.{tail-none, tail-code, tail-plain,
 use borrow.Author.Needs.{needs}
 use Rattle.scan_values.proofs.tail_fits.Statement.{statement}
 use Rattle.scan_values.proofs.tail_fits.Tie as tie
-use Rattle.scan_values.proofs.tail_fits.Reads as reads
-use Rattle.scan_values.proofs.tail_fits.Lts as lts
-use Rattle.references.proofs.read_reference.Reads as read-reference-reads
 
 returns : tie.Need-returns
 returns c = search tail-none

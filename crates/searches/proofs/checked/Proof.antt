@@ -4,10 +4,6 @@ use Rattle.searches.proofs.Tries.{at-low, at-sum, checked-at, dead-low,
 use borrow.Author.Needs.{needs}
 use Rattle.searches.proofs.checked.Statement.{statement}
 use Rattle.searches.proofs.checked.Tie as tie
-use Rattle.searches.proofs.checked.Reads as reads
-use Rattle.searches.proofs.checked.Lts as lts
-use Rattle.searches.proofs.allowed.Reads as allowed-reads
-use Rattle.windows.proofs.verify.Reads as verify-reads
 
 allowed-requires : tie.Need-allowed-requires
 allowed-requires c κs = search needs

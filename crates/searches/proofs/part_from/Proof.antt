@@ -3,9 +3,6 @@ use Rattle.searches.proofs.Shows.{shown-at, shown-dead, shown-open}
 use borrow.Author.Needs.{needs}
 use Rattle.searches.proofs.part_from.Statement.{statement}
 use Rattle.searches.proofs.part_from.Tie as tie
-use Rattle.searches.proofs.part_from.Reads as reads
-use Rattle.searches.proofs.part_from.Lts as lts
-use Rattle.windows.proofs.verify.Reads as verify-reads
 
 verify-requires : tie.Need-verify-requires
 verify-requires c κs = search needs

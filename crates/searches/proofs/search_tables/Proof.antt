@@ -3,11 +3,6 @@ use Rattle.searches.proofs.Searches.{rest-fits, finished}
 use borrow.Author.Needs.{needs}
 use Rattle.searches.proofs.search_tables.Statement.{statement}
 use Rattle.searches.proofs.search_tables.Tie as tie
-use Rattle.searches.proofs.search_tables.Reads as reads
-use Rattle.searches.proofs.search_tables.Lts as lts
-use Rattle.searches.proofs.count_windows.Reads as count-windows-reads
-use Rattle.searches.proofs.verified.Reads as verified-reads
-use Rattle.windows.proofs.write_rest.Reads as write-rest-reads
 
 verified-requires : tie.Need-verified-requires
 verified-requires c κs = search needs

@@ -3,10 +3,6 @@ use Rattle.searches.proofs.Tries.{hit, missed}
 use borrow.Author.Needs.{needs}
 use Rattle.searches.proofs.try_window.Statement.{statement}
 use Rattle.searches.proofs.try_window.Tie as tie
-use Rattle.searches.proofs.try_window.Reads as reads
-use Rattle.searches.proofs.try_window.Lts as lts
-use Rattle.searches.proofs.checked.Reads as checked-reads
-use Rattle.windows.proofs.window_shift.Reads as window-shift-reads
 
 window-shift-requires : tie.Need-window-shift-requires
 window-shift-requires c κs = search needs

@@ -2,8 +2,6 @@
 use Rattle.words.proofs.Settled.{move-fold}
 use Rattle.steps.proofs.move_home.Statement.{statement}
 use Rattle.steps.proofs.move_home.Tie as tie
-use Rattle.steps.proofs.move_home.Reads as reads
-use Rattle.steps.proofs.move_home.Lts as lts
 
 returns : tie.Need-returns
 returns c = search move-fold

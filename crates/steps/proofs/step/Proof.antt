@@ -4,12 +4,6 @@ use Rattle.steps.proofs.Steps.{step-none}
 use borrow.Author.Needs.{needs}
 use Rattle.steps.proofs.step.Statement.{statement}
 use Rattle.steps.proofs.step.Tie as tie
-use Rattle.steps.proofs.step.Reads as reads
-use Rattle.steps.proofs.step.Lts as lts
-use Rattle.words.proofs.advance.Reads as advance-reads
-use Rattle.words.proofs.block_ends.Reads as block-ends-reads
-use Rattle.words.proofs.block_starts.Reads as block-starts-reads
-use Rattle.words.proofs.move_up.Reads as move-up-reads
 
 move-up-requires : tie.Need-move-up-requires
 move-up-requires c κs = search needs

@@ -2,9 +2,6 @@
 use Rattle.steps.proofs.Steps.{has-home, step-plain}
 use Rattle.steps.proofs.step_plain.Statement.{statement}
 use Rattle.steps.proofs.step_plain.Tie as tie
-use Rattle.steps.proofs.step_plain.Reads as reads
-use Rattle.steps.proofs.step_plain.Lts as lts
-use Rattle.steps.proofs.move_home.Reads as move-home-reads
 
 move-home-requires : tie.Need-move-home-requires
 move-home-requires c κs = search has-home

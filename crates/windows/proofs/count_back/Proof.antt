@@ -3,12 +3,6 @@ use Rattle.windows.proofs.BackLaws.{Counting, count-begun, counted, cou
 use borrow.Author.Needs.{needs}
 use Rattle.windows.proofs.count_back.Statement.{statement}
 use Rattle.windows.proofs.count_back.Tie as tie
-use Rattle.windows.proofs.count_back.Reads as reads
-use Rattle.windows.proofs.count_back.Lts as lts
-use Rattle.looks.proofs.index.Reads as index-reads
-use Rattle.steps.proofs.step.Reads as step-reads
-use Rattle.words.proofs.opening.Reads as opening-reads
-use Rattle.words.proofs.reports.Reads as reports-reads
 
 abbrev Inv-loop : tie.InvT-loop
 Inv-loop reversed m text from d₀ k₀ j₀ d k j = Counting reversed m text from d k j

@@ -4,9 +4,6 @@ use Rattle.windows.proofs.WindowLaws.{Stepping, firsts-begun, firsts-on
 use borrow.Author.Needs.{needs}
 use Rattle.windows.proofs.first_steps.Statement.{statement}
 use Rattle.windows.proofs.first_steps.Tie as tie
-use Rattle.windows.proofs.first_steps.Reads as reads
-use Rattle.windows.proofs.first_steps.Lts as lts
-use Rattle.steps.proofs.step.Reads as step-reads
 
 abbrev Inv-loop : tie.InvT-loop
 Inv-loop reversed m first₀ c₀ first c = Stepping reversed m first c

@@ -4,11 +4,6 @@ use Rattle.windows.proofs.WindowLaws.{look-emptied, look-begins, look-p
 use borrow.Author.Needs.{needs}
 use Rattle.windows.proofs.read_back.Statement.{statement}
 use Rattle.windows.proofs.read_back.Tie as tie
-use Rattle.windows.proofs.read_back.Reads as reads
-use Rattle.windows.proofs.read_back.Lts as lts
-use Rattle.looks.proofs.index.Reads as index-reads
-use Rattle.steps.proofs.step.Reads as step-reads
-use Rattle.words.proofs.reports.Reads as reports-reads
 
 abbrev Inv-loop : tie.InvT-loop
 Inv-loop reversed m size text w d₁ last₁ j₁ d₀ last₀ j₀ d last j = Looking reversed m size text w d last j

@@ -4,12 +4,6 @@ use Rattle.windows.proofs.VerifyLaws.{Verifying, verify-begun, verify-d
 use borrow.Author.Needs.{needs}
 use Rattle.windows.proofs.verify.Statement.{statement}
 use Rattle.windows.proofs.verify.Tie as tie
-use Rattle.windows.proofs.verify.Reads as reads
-use Rattle.windows.proofs.verify.Lts as lts
-use Rattle.looks.proofs.index.Reads as index-reads
-use Rattle.steps.proofs.step.Reads as step-reads
-use Rattle.words.proofs.opening.Reads as opening-reads
-use Rattle.words.proofs.reports.Reads as reports-reads
 
 abbrev Inv-loop : tie.InvT-loop
 Inv-loop forward m text s stop d₀ e₀ d e = Verifying forward m text s stop d e

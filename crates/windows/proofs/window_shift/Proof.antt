@@ -3,11 +3,6 @@ use Rattle.windows.proofs.WindowLaws.{first-alone, first-emptied, first
 use borrow.Author.Needs.{needs}
 use Rattle.windows.proofs.window_shift.Statement.{statement}
 use Rattle.windows.proofs.window_shift.Tie as tie
-use Rattle.windows.proofs.window_shift.Reads as reads
-use Rattle.windows.proofs.window_shift.Lts as lts
-use Rattle.looks.proofs.index.Reads as index-reads
-use Rattle.windows.proofs.read_back.Reads as read-back-reads
-use Rattle.words.proofs.reports.Reads as reports-reads
 
 sub-j : tie.Need-sub-j
 sub-j c = search needs

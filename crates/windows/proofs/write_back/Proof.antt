@@ -3,12 +3,6 @@ use Rattle.windows.proofs.BackLaws.{Writing, write-begun, more-place, m
 use borrow.Author.Needs.{needs}
 use Rattle.windows.proofs.write_back.Statement.{statement}
 use Rattle.windows.proofs.write_back.Tie as tie
-use Rattle.windows.proofs.write_back.Reads as reads
-use Rattle.windows.proofs.write_back.Lts as lts
-use Rattle.looks.proofs.index.Reads as index-reads
-use Rattle.steps.proofs.step.Reads as step-reads
-use Rattle.words.proofs.opening.Reads as opening-reads
-use Rattle.words.proofs.reports.Reads as reports-reads
 
 abbrev Inv-loop : tie.InvT-loop
 Inv-loop reversed m text from starts₀ first k d₀ p₀ j₀ starts d p j = Writing reversed m text from starts₀ first starts d p j

@@ -4,7 +4,7 @@ use Prim.Native.Nat.{ℕ, _-_, _^_}
 use native.Mathlib.Omega.{arith}
 use borrow.Author.Needs.{needs}
 use lib.Bits.{bitAnd, bitOr, bitXor}
-use Rattle.words.specs.ForwardStep.{wrapSub, flood}
+use Rattle.words.specs.ForwardStep.{flood}
 use Rattle.words.proofs.Digits.{wrapped}
 use Rattle.words.proofs.flood.Statement.{statement}
 use Rattle.words.proofs.flood.Tie as tie

@@ -3,9 +3,6 @@ use Rattle.finder.proofs.Parts.{prepare-answers}
 use borrow.Author.Needs.{needs}
 use Rattle.finder.proofs.exports.jazhuppe_prepare.Statement.{statement}
 use Rattle.finder.proofs.exports.jazhuppe_prepare.Tie as tie
-use Rattle.finder.proofs.exports.jazhuppe_prepare.Reads as reads
-use Rattle.finder.proofs.exports.jazhuppe_prepare.Lts as lts
-use Rattle.rules.proofs.prepare.Reads as prepare-reads
 
 prepare-requires : tie.Need-prepare-requires
 prepare-requires c κs = search needs
