@@ -12,7 +12,7 @@ CFLAGS = -O2 -g
 WARNINGS = -Wall -Wextra -Wpedantic -Wconversion -Wshadow
 COMPILE = $(CC) -std=c99 $(WARNINGS) $(CFLAGS) -Iinclude
 
-ARCHIVE = target/staticlib/libfinder.a
+ARCHIVE = target/staticlib/libjazhuppe.a
 PROGRAM = build/jazhuppe
 HEADER = include/jazhuppe.h
 TESTS = $(addprefix build/test/, marked refusals scan_values limits differential)
@@ -23,7 +23,7 @@ all: $(ARCHIVE) $(PROGRAM)
 
 # It needs the Rattle kit's rt, which proves what has changed and compiles it only then.
 $(ARCHIVE): crates.txt $(shell find crates -name must-fail -prune -o -type f -print)
-	rt staticlib finder
+	rt staticlib jazhuppe
 
 $(PROGRAM): host/jazhuppe.c $(HEADER) $(ARCHIVE)
 	@mkdir -p $(@D)

@@ -8,10 +8,10 @@ use lib.Dec.{T, eqb}
 use lib.ListN.{length, replicate}
 use Rattle.model.specs.Ascii.{ascii}
 use Rattle.model.specs.Occurrence.{Position, shortest, ends, starts}
-use Rattle.model.specs.RuleText.{foldFlag, kindSet, class, byte, gap, once, optional, repeatable}
+use Rattle.model.specs.RuleText.{foldFlag, otherCase, kindSet, class, byte, gap, once, optional, repeatable}
 use Rattle.model.specs.NumberedAnswers.{accepted, parse, rulePositions, wholeRefusal, overwrite}
 use Rattle.model.specs.References.{formLimit, utf8, decode, heldTail, letOut}
-use Rattle.model.specs.PlainScan.{feed, finish, refused, reported, plainScan, reportedEnds}
+use Rattle.model.specs.PlainScan.{feed, finish, refused, reported, refusalFor, plainScan, reportedEnds}
 use Rattle.model.specs.WindowSearch.{windows, shown}
 use Rattle.model.specs.MarkedTable.{same, isRefused}
 
@@ -57,6 +57,7 @@ rules : T (rulesHold false (
     ∷ refuses (ascii "x[a-]") 3 1
     ∷ refuses (ascii "[--a]") 3 0
     ∷ refuses (ascii "[b-a]") 3 0
+    ∷ refuses (ascii "[xb-a]") 3 0  -- reversed, though a byte is left
     ∷ refuses (ascii "[a\\") 3 0
     ∷ refuses (ascii "[\\a]") 3 0
     ∷ has (ascii "[\\--a]") 1 1
@@ -72,6 +73,8 @@ rules : T (rulesHold false (
     ∷ refuses (ascii "ab}") 6 2
     ∷ refuses (ascii "]") 6 0
     ∷ has (ascii "\\.^-,0") 5 5
+    ∷ has (ascii "\\.\\[\\]\\{\\}\\?\\+\\*\\\\\\^\\-") 11 11
+    ∷ refuses (ascii "\\,") 6 0
     ∷ refuses (ascii "a?.*{0,9}") 8 9
     ∷ has (0 ∷ 10 ∷ []) 2 2
     ∷ []
@@ -104,6 +107,14 @@ turned-last = (refl, refl)
 folded : reportedEnds (plainScan 256 (ascii "rOw") (feed (ascii "Row row rov") 20 ∷ finish 9 ∷ [])) ≡ 3 ∷ 7 ∷ []
 folded = refl
 
+-- "a letter's entry is its other case, every other byte's entry is itself": at the edges of both alphabets
+other-cases : T (same (65 ∷ 90 ∷ 97 ∷ 122 ∷ 64 ∷ 91 ∷ 96 ∷ 123 ∷ []) (otherCase 97 ∷ otherCase 122 ∷ otherCase 65 ∷ otherCase 90 ∷ otherCase 64 ∷ otherCase 91 ∷ otherCase 96 ∷ otherCase 123 ∷ []))
+other-cases = tt
+
+-- "`*` .. both"
+starred : reportedEnds (plainScan 0 (ascii "ab*c") (feed (ascii "ac abbc") 20 ∷ finish 9 ∷ [])) ≡ 2 ∷ 7 ∷ []
+starred = refl
+
 -- ---- references
 
 data Raw : Type 0 where
@@ -122,6 +133,9 @@ references : T (rawHolds (
     ∷ decodes (ascii "&#38;#60;") (ascii "&#60;")
     ∷ decodes (ascii "&#x10FFFF;") (244 ∷ 143 ∷ 191 ∷ 191 ∷ [])
     ∷ decodes (ascii "&#x110000;") (ascii "&#x110000;")
+    ∷ decodes (ascii "&#65536;&#65535;") ((240 ∷ 144 ∷ 128 ∷ 128 ∷ []) ++ ascii "&#65535;")
+    ∷ decodes (ascii "&#xFf;&#xaA;") (195 ∷ 191 ∷ 194 ∷ 170 ∷ [])
+    ∷ decodes (ascii "&#xG;&#xg;&#x@;&#x`;&#x:;&#x/;&#:;&#/;") (ascii "&#xG;&#xg;&#x@;&#x`;&#x:;&#x/;&#:;&#/;")
     ∷ decodes (ascii "&#xD7FF;") (237 ∷ 159 ∷ 191 ∷ [])
     ∷ decodes (ascii "&#xd800;&#xDFFF;") (ascii "&#xd800;&#xDFFF;")
     ∷ decodes (ascii "&#xE000;&#xFFFD;") (238 ∷ 128 ∷ 128 ∷ 239 ∷ 191 ∷ 189 ∷ [])
@@ -180,6 +194,13 @@ ten-ends : plainScan 0 (ascii ".") (feed (ascii "&#1234567") 18 ∷ feed (ascii 
     ∷ reported (11 ∷ 12 ∷ 13 ∷ 14 ∷ 15 ∷ 16 ∷ 17 ∷ 18 ∷ 19 ∷ [])
     ∷ []
 ten-ends = refl
+
+-- ---- scan calls: 12 before 10 before 9, and the edges
+refusals : (refusalFor formLimit true 4294967295 1 0 ≡ 12)
+    × (refusalFor formLimit false 4294967295 1 0 ≡ 10)
+    × (refusalFor formLimit false 4294967295 0 8 ≡ 9)
+    × (refusalFor formLimit false 4294967294 1 10 ≡ 0)
+refusals = (refl, refl, refl, refl)
 
 -- ---- whole-text calls: 10 before 9, and the edges of both
 

@@ -1,4 +1,4 @@
--- The seat-rule finder: document 01 as definitions, a file for each of its sections. ("Forward step" is in the crate `words`.) `Examples`
+-- The seat-rule finder: document 01 as definitions, a file for each of its sections. ("Forward step" is in the crate `shift_and`.) `Examples`
 -- are closed cases of them.
 pub mod Ascii
 pub mod Occurrence

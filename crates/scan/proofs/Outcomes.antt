@@ -11,15 +11,15 @@ use lib.Seq.{sets-eq, length-take-le}
 use borrow.Author.Tests.{eq-eqb, ne-eqb}
 use Rattle.model.specs.NumberedAnswers.{overwrite}
 use Rattle.model.specs.PlainScan.{Call, feed, finish, pieceOf, listOf}
-use Rattle.references.specs.declared.Answer.{Answer}
-use Rattle.references.specs.declared.Held.{Held}
-use Rattle.references.specs.Decoder.{refusing, counting}
-use Rattle.references.specs.Crosses.{heldOf, HeldFine}
-use Rattle.steps.specs.declared.Masks.{Masks}
-use Rattle.feeding.specs.declared.State.{State}
-use Rattle.feeding.specs.declared.Fed.{Fed}
-use Rattle.feeding.specs.Feeding.{textOf, tailOf, Stepped, FedIs}
-use Rattle.scan_values.specs.Value.{tableIn, masksIn, rawIn, decodedIn, heldIn, LoadFine, LoadIs, Fine, RefusedIs, written}
+use Rattle.reference_decoder.specs.declared.Answer.{Answer}
+use Rattle.reference_decoder.specs.declared.Held.{Held}
+use Rattle.reference_decoder.specs.Decoder.{refusing, counting}
+use Rattle.reference_decoder.specs.Crosses.{heldOf, HeldFine}
+use Rattle.shift_and_step.specs.declared.Masks.{Masks}
+use Rattle.scan_piece.specs.declared.State.{State}
+use Rattle.scan_piece.specs.declared.Fed.{Fed}
+use Rattle.scan_piece.specs.Feeding.{textOf, tailOf, Stepped, FedIs}
+use Rattle.scan_value.specs.Value.{tableIn, masksIn, rawIn, decodedIn, heldIn, LoadFine, LoadIs, Fine, RefusedIs, written}
 use Rattle.scan.specs.Calls.{startOf, numberOf, outOf, tailAfter, finishedAfter, endsOf, Taken, CallIs}
 
 module _ (s : List ℕ) (p n : ℕ) (fine : Fine s p n) where

@@ -20,17 +20,17 @@ use Rattle.model.proofs.Truth.{branch, and-left, and-right, and-intro}
 use Rattle.model.proofs.Decoding.{decode-length, held-length, tail-joined, held-cut}
 use Rattle.model.proofs.Scans as Scans
 use Rattle.model.proofs.Scans.{Scanner, opened, through, finishes, moved, scannerFrom}
-use Rattle.words.specs.ForwardStep.{onByte, topBit, opening}
-use Rattle.words.specs.Masks.{repeatsMask, optionalMask, Encodes}
-use Rattle.words.proofs.Bridge.{words-are-plain}
-use Rattle.rules.specs.Tables.{tableOf}
-use Rattle.rules.proofs.FillLaws.{long-entries}
-use Rattle.rules.proofs.Encoded.{table-entry}
-use Rattle.steps.specs.declared.Masks.{Masks}
-use Rattle.steps.specs.Stepping.{stepN, stateAfter, endsIn}
-use Rattle.feeding.specs.Feeding.{textOf, tailOf}
-use Rattle.scan_values.specs.Value.{scanLength, tableIn, positionsIn, masksIn, stateIn, finishedIn, rawIn, decodedIn, heldIn, possible, numberFor, slots, written}
-use Rattle.scan_values.proofs.Readback.{as-list, written-table, written-state, written-finished, written-raw, written-decoded, written-held, written-long, written-masks, written-possible}
+use Rattle.shift_and.specs.ForwardStep.{onByte, topBit, opening}
+use Rattle.shift_and.specs.Masks.{repeatsMask, optionalMask, Encodes}
+use Rattle.shift_and.proofs.Bridge.{words-are-plain}
+use Rattle.rule_compiler.specs.Tables.{tableOf}
+use Rattle.rule_compiler.proofs.FillLaws.{long-entries}
+use Rattle.rule_compiler.proofs.Encoded.{table-entry}
+use Rattle.shift_and_step.specs.declared.Masks.{Masks}
+use Rattle.shift_and_step.specs.Stepping.{stepN, stateAfter, endsIn}
+use Rattle.scan_piece.specs.Feeding.{textOf, tailOf}
+use Rattle.scan_value.specs.Value.{scanLength, tableIn, positionsIn, masksIn, stateIn, finishedIn, rawIn, decodedIn, heldIn, possible, numberFor, slots, written}
+use Rattle.scan_value.proofs.Readback.{as-list, written-table, written-state, written-finished, written-raw, written-decoded, written-held, written-long, written-masks, written-possible}
 use Rattle.scan.specs.Calls.{numberOf, outOf, tailAfter, finishedAfter, endsOf, after, runFrom, Bytes, PiecesAreBytes}
 use Rattle.scan.specs.declared.Opened.{Opened}
 use Rattle.scan.specs.Opening.{openingOf, answerBy, leftBy, OpenIs}

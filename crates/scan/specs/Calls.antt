@@ -11,12 +11,12 @@ use Rattle.model.specs.RuleText.{isByte}
 use Rattle.model.specs.NumberedAnswers.{overwrite}
 use Rattle.model.specs.PlainScan as Plain
 use Rattle.model.specs.PlainScan.{Call, feed, finish, pieceOf, listOf}
-use Rattle.references.specs.declared.Answer.{Answer}
-use Rattle.references.specs.Decoder.{refusing, counting}
-use Rattle.steps.specs.Stepping.{stateAfter, endsIn}
-use Rattle.feeding.specs.declared.State.{State}
-use Rattle.feeding.specs.Feeding.{textOf, tailOf}
-use Rattle.scan_values.specs.Value.{tableIn, masksIn, stateIn, rawIn, decodedIn, heldIn, written, numberFor}
+use Rattle.reference_decoder.specs.declared.Answer.{Answer}
+use Rattle.reference_decoder.specs.Decoder.{refusing, counting}
+use Rattle.shift_and_step.specs.Stepping.{stateAfter, endsIn}
+use Rattle.scan_piece.specs.declared.State.{State}
+use Rattle.scan_piece.specs.Feeding.{textOf, tailOf}
+use Rattle.scan_value.specs.Value.{tableIn, masksIn, stateIn, rawIn, decodedIn, heldIn, written, numberFor}
 
 -- ---- one call on scan value s
 

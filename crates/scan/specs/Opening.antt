@@ -10,11 +10,11 @@ use Rattle.model.specs.Occurrence.{Position, shortest}
 use Rattle.model.specs.RuleText.{foldFlag, positions}
 use Rattle.model.specs.NumberedAnswers.{Parsed, refused, accepted, parse}
 use Rattle.model.specs.References.{formLimit, heldMost}
-use Rattle.words.specs.ForwardStep.{opening}
-use Rattle.words.specs.Masks.{optionalMask, repeatsMask}
-use Rattle.rules.specs.declared.Prepared.{Prepared}
-use Rattle.rules.specs.Tables.{tableOf}
-use Rattle.scan_values.specs.Value.{scanLength, slots, written}
+use Rattle.shift_and.specs.ForwardStep.{opening}
+use Rattle.shift_and.specs.Masks.{optionalMask, repeatsMask}
+use Rattle.rule_compiler.specs.declared.Prepared.{Prepared}
+use Rattle.rule_compiler.specs.Tables.{tableOf}
+use Rattle.scan_value.specs.Value.{scanLength, slots, written}
 use Rattle.scan.specs.declared.Opened.{Opened}
 
 -- `begin`: all but the table

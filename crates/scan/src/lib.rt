@@ -1,14 +1,14 @@
 // The forward scan: open, feed, finish, over a lent scan value.
 ghost use mathlib.Core.Path.{_≡_};
 ghost use lib.ListN.{length};
-ghost use Rattle.references.specs.Decoder.{refusing};
-ghost use Rattle.scan_values.specs.Value.{scanLength, Possible, Fine};
+ghost use Rattle.reference_decoder.specs.Decoder.{refusing};
+ghost use Rattle.scan_value.specs.Value.{scanLength, Possible, Fine};
 ghost use Rattle.scan.specs.Calls.{startOf, FeedTaken, FinishTaken, FeedIs, FinishIs};
 ghost use Rattle.scan.specs.Opening.{begun, OpenIs};
-use feeding::State;
-use references::Answer;
-use references::Held;
-use rules::Prepared;
+use scan_piece::State;
+use reference_decoder::Answer;
+use reference_decoder::Held;
+use rule_compiler::Prepared;
 
 // What preparing a rule, or an opening, answers.
 #[repr(C)]
@@ -24,22 +24,22 @@ fn begin(scan: &mut [u64], p: Prepared)
     requires { ⌜ length (now scan) ≡ scanLength ⌝ }
     ensures { λ r. ⌜ now (scan .exit) ≡ begun (now (scan .entry)) p ⌝ }
 {
-    scan[scan_values::REPEATS] = p.repeats;
-    scan[scan_values::OPTIONAL] = p.optional;
-    scan[scan_values::POSITIONS] = p.positions as u64;
-    let d = words::opening(p.optional);
+    scan[scan_value::REPEATS] = p.repeats;
+    scan[scan_value::OPTIONAL] = p.optional;
+    scan[scan_value::POSITIONS] = p.positions as u64;
+    let d = shift_and::opening(p.optional);
     let none = Held {
         bytes: [0u8; 10],
         len: 0,
     };
-    scan_values::put(scan, d, 0, 0, 0, none);
+    scan_value::put(scan, d, 0, 0, 0, none);
 }
 
 // Opens a scan for a rule.
 pub fn open(rule: &[u8], fold: u32, scan: &mut [u64]) -> Opened
     ensures { λ r. ⌜ OpenIs fold (now (rule .entry)) (now (scan .entry)) r (now (scan .exit)) ⌝ }
 {
-    let p = rules::prepare(rule, fold);
+    let p = rule_compiler::prepare(rule, fold);
     if p.number != 0 {
         return Opened {
             number: p.number,
@@ -48,7 +48,7 @@ pub fn open(rule: &[u8], fold: u32, scan: &mut [u64]) -> Opened
             shortest: 0,
         };
     }
-    if scan.len() != scan_values::LENGTH {
+    if scan.len() != scan_value::LENGTH {
         return Opened {
             number: 11,
             place: 0,
@@ -56,7 +56,7 @@ pub fn open(rule: &[u8], fold: u32, scan: &mut [u64]) -> Opened
             shortest: 0,
         };
     }
-    rules::tables::fill(rule, fold, p.positions, &mut scan[..256], false);
+    rule_compiler::tables::fill(rule, fold, p.positions, &mut scan[..256], false);
     begin(scan, p);
     Opened {
         number: 0,
@@ -71,8 +71,8 @@ fn start(scan: &[u64]) -> State
     requires { ⌜ Possible (now scan) ⌝ }
     ensures { λ r. ⌜ r ≡ startOf (now (scan .entry)) ⌝ }
 {
-    let d = scan[scan_values::STATE];
-    let at = scan[scan_values::DECODED] as u32;
+    let d = scan[scan_value::STATE];
+    let at = scan[scan_value::DECODED] as u32;
     State {
         d: d,
         at: at,
@@ -85,15 +85,15 @@ fn feed_accepted(scan: &mut [u64], piece: &[u8], ends: &mut [u32]) -> Answer
     requires { ⌜ Fine (now scan) (length (now piece)) (length (now ends)) ⌝ }
     ensures { λ r. ⌜ FeedTaken (now (scan .entry)) (now (piece .entry)) (now (ends .entry)) r (now (scan .exit)) (now (ends .exit)) ⌝ }
 {
-    let masks = scan_values::masks_of(scan);
-    let h = scan_values::load(scan);
-    let raw = scan[scan_values::RAW];
+    let masks = scan_value::masks_of(scan);
+    let h = scan_value::load(scan);
+    let raw = scan[scan_value::RAW];
     let g = start(scan);
-    let f = feeding::feed_bytes(&scan[..256], masks, g, h, piece, ends);
+    let f = scan_piece::feed_bytes(&scan[..256], masks, g, h, piece, ends);
     let u = f.state;
     let k = f.held;
     let taken = raw + piece.len() as u64;
-    scan_values::put(scan, u.d, 0, taken, u.at as u64, k);
+    scan_value::put(scan, u.d, 0, taken, u.at as u64, k);
     let count = u.count as u32;
     Answer {
         number: 0,
@@ -108,18 +108,18 @@ fn finish_accepted(scan: &mut [u64], ends: &mut [u32]) -> Answer
     requires { ⌜ Fine (now scan) 0 (length (now ends)) ⌝ }
     ensures { λ r. ⌜ FinishTaken (now (scan .entry)) (now (ends .entry)) r (now (scan .exit)) (now (ends .exit)) ⌝ }
 {
-    let masks = scan_values::masks_of(scan);
-    let h = scan_values::load(scan);
-    let raw = scan[scan_values::RAW];
+    let masks = scan_value::masks_of(scan);
+    let h = scan_value::load(scan);
+    let raw = scan[scan_value::RAW];
     let g = start(scan);
     let b = h.bytes;
     let n = h.len;
-    let u = feeding::through(&scan[..256], masks, g, &b[..n], ends);
+    let u = scan_piece::through(&scan[..256], masks, g, &b[..n], ends);
     let none = Held {
         bytes: [0u8; 10],
         len: 0,
     };
-    scan_values::put(scan, u.d, 1, raw, u.at as u64, none);
+    scan_value::put(scan, u.d, 1, raw, u.at as u64, none);
     let count = u.count as u32;
     Answer {
         number: 0,
@@ -145,7 +145,7 @@ fn refusal(number: u32) -> Answer
 pub fn feed(scan: &mut [u64], piece: &[u8], ends: &mut [u32]) -> Answer
     ensures { λ r. ⌜ FeedIs (now (scan .entry)) (now (piece .entry)) (now (ends .entry)) r (now (scan .exit)) (now (ends .exit)) ⌝ }
 {
-    let number = scan_values::refused(scan, piece.len(), ends.len());
+    let number = scan_value::refused(scan, piece.len(), ends.len());
     if number != 0 {
         return refusal(number);
     }
@@ -156,7 +156,7 @@ pub fn feed(scan: &mut [u64], piece: &[u8], ends: &mut [u32]) -> Answer
 pub fn finish(scan: &mut [u64], ends: &mut [u32]) -> Answer
     ensures { λ r. ⌜ FinishIs (now (scan .entry)) (now (ends .entry)) r (now (scan .exit)) (now (ends .exit)) ⌝ }
 {
-    let number = scan_values::refused(scan, 0, ends.len());
+    let number = scan_value::refused(scan, 0, ends.len());
     if number != 0 {
         return refusal(number);
     }

@@ -6,7 +6,7 @@
 ghost use Prim.Native.Nat.{_≤_};
 ghost use lib.ListN.{length};
 ghost use Rattle.scan_examples.specs.Places.{Between};
-use references::Answer;
+use reference_decoder::Answer;
 use scan::Opened;
 
 // What each entry of a list is set to before a call, to see which of them the call writes.
@@ -496,7 +496,7 @@ fn limit() {
     text(b"-- the limit of the raw count\n");
     let mut scan = [0u64; 273];
     open_one(&mut scan);
-    scan[scan_values::RAW] = 4294967290;
+    scan[scan_value::RAW] = 4294967290;
     feed_one(&mut scan, 16);
     feed(&mut scan, b"xab&a", 16);
     feed(&mut scan, b"m", 16);

@@ -1,6 +1,6 @@
 -- `scan::feed_accepted` meets its contract. Its laws are in this crate's `proofs/`; `search LAW` finds a law's premises in `c`. Assumes nothing.
 use mathlib.Core.Path.{ap}
-use Rattle.feeding.specs.declared.State.{State}
+use Rattle.scan_piece.specs.declared.State.{State}
 use lib.ListN.{length, length-take}
 use native.Mathlib.Omega.{arith}
 use Rattle.scan.proofs.Outcomes.{held-fine, fits, feed-stored, feed-count}

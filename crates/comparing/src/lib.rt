@@ -1,3 +1,0 @@
-// The finder's calls next to those of `naive`. Each call is compared in all that it answers and in every
-// entry of what it was lent, also past those that it reports, and is counted in a tally.
-pub mod calls;

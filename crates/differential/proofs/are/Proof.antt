@@ -1,0 +1,59 @@
+-- `differential::are` is safe, and keeps what its contract promises. Assumes nothing.
+use Prim.Native.Nat.{_-_}
+use lib.ListN.{length}
+use borrow.Author.Needs.{needs}
+use Rattle.differential.proofs.are.Statement.{statement}
+use Rattle.differential.proofs.are.Tie as tie
+
+abbrev Inv-loop : tie.InvT-loop
+Inv-loop bytes hexadecimal i₀ i = Unit
+
+abbrev μ-loop : tie.MeasureT-loop
+μ-loop bytes hexadecimal i₀ i = length bytes - i
+
+returns : tie.Need-returns Inv-loop μ-loop
+returns c = search needs
+
+loop-holds : tie.Need-loop-holds Inv-loop μ-loop
+loop-holds c = search needs
+
+shared-slice-read-if2 : tie.Need-shared-slice-read-if2 Inv-loop μ-loop
+shared-slice-read-if2 c = search needs
+
+mul-byte-at : tie.Need-mul-byte-at Inv-loop μ-loop
+mul-byte-at c = search needs
+
+byte-at-requires : tie.Need-byte-at-requires Inv-loop μ-loop
+byte-at-requires c κs = search needs
+
+returns-2 : tie.Need-returns-2 Inv-loop μ-loop
+returns-2 c = search needs
+
+add-i : tie.Need-add-i Inv-loop μ-loop
+add-i c = search needs
+
+loop-less : tie.Need-loop-less Inv-loop μ-loop
+loop-less c = search needs
+
+loop-again : tie.Need-loop-again Inv-loop μ-loop
+loop-again c = search needs
+
+returns-3 : tie.Need-returns-3 Inv-loop μ-loop
+returns-3 c = search needs
+
+pub are-spec : {M : Type 1} → statement M
+are-spec =
+    tie.close
+    (tie.spec
+    Inv-loop
+    μ-loop
+    returns
+    loop-holds
+    shared-slice-read-if2
+    mul-byte-at
+    byte-at-requires
+    returns-2
+    add-i
+    loop-less
+    loop-again
+    returns-3)

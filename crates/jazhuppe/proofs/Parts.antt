@@ -1,0 +1,162 @@
+-- The parts of a search, and the whole. On plain values. Assumes nothing.
+use mathlib.Core.Path.{_≡_, sym, ap, ap₂, subst, _∙_}
+use mathlib.Core.Bool.{true, false}
+use mathlib.Core.List.{List, [], _∷_}
+use Prim.Native.Nat.{ℕ, suc, _≤_, _<_}
+use native.Mathlib.Omega.{arith}
+use mir.Syntax.{w8}
+use mir.Val.{Fits}
+use lib.Dec.{T, lt→ltb}
+use lib.ListN.{length, getD}
+use borrow.Author.Tests.{eq-eqb, ne-eqb, lt-ltb, le-ltb}
+use Rattle.model.specs.Occurrence.{Position, all, shortest, starts}
+use Rattle.model.specs.RuleText.{foldFlag, positionLimit, isByte, positions}
+use Rattle.model.specs.NumberedAnswers.{textLimit, Parsed, refused, accepted, parse, positionsBy, rulePositions, wholeRefusal, overwrite}
+use Rattle.model.specs.WindowSearch.{windows}
+use Rattle.model.proofs.Truth.{and-intro}
+use Rattle.model.proofs.Accepted.{RuleOk, rule-ok, shortest-length}
+use Rattle.shift_and.specs.Masks.{Encodes}
+use Rattle.reference_decoder.specs.declared.Answer.{Answer}
+use Rattle.rule_compiler.specs.declared.Prepared.{Prepared}
+use Rattle.rule_compiler.specs.Preparing.{preparedBy, prepared, Prepares}
+use Rattle.rule_compiler.specs.Tables.{Fillable, Filled}
+use Rattle.rule_compiler.proofs.Encoded.{is-refused, is-accepted, may-fill, positions-are, shortest-is, encodes-forwards, encodes-reversed}
+use Rattle.window_reader.specs.Reading.{Tables, FirstIs}
+use Rattle.window_search.specs.declared.Rule.{Rule}
+use Rattle.window_search.specs.declared.Found.{Found}
+use Rattle.window_search.specs.Searching.{RuleFits, RuleOf, SearchFits, SearchedIs}
+use Rattle.jazhuppe.specs.Preparing.{prepareAnswer, PrepareIs}
+use Rattle.jazhuppe.specs.Searching.{answering, SearchIs, WholeIs, PreparedIs, Ready, WorkIs}
+
+-- what the elements of a slice of bytes are
+pub bytes-known : (xs : List ℕ) → ((i : ℕ) → Fits w8 (getD xs i 0)) → T (all isByte xs)
+bytes-known [] k = tt
+bytes-known (x ∷ xs) k = and-intro (isByte x) (all isByte xs) (lt→ltb x 256 (k 0 .fits)) (bytes-known xs (λ i. k (suc i)))
+
+-- ---- `whole`
+
+module _ (text lent : ℕ) where
+  pub whole-10 : textLimit < text → WholeIs text lent 10
+  whole-10 h = record { is = rw (lt-ltb _ _ h); small = λ z. absurd (omega arith); room = λ z. absurd (omega arith) }
+
+  module _ (h : text ≤ textLimit) where
+    pub whole-9 : lent < text → WholeIs text lent 9
+    whole-9 l = record { is = rw (le-ltb _ _ h, lt-ltb _ _ l); small = λ z. absurd (omega arith); room = λ z. absurd (omega arith) }
+
+    pub whole-0 : text ≤ lent → WholeIs text lent 0
+    whole-0 l = record { is = rw (le-ltb _ _ h, le-ltb _ _ l); small = λ z. h; room = λ z. l }
+
+-- ---- a prepared rule and its tables
+
+module _ (flag : ℕ) (rule : List ℕ) (p : Prepared) (hp : Prepares flag rule p) (z : p .number ≡ 0) where
+  abbrev ps : List Position
+  ps = rulePositions (foldFlag flag) rule
+
+  pub rule-is-ok : T (all isByte rule) → RuleOk positionLimit ps
+  rule-is-ok bytes = let a = is-accepted flag rule p hp z in rule-ok (foldFlag flag) rule (a .elements) bytes (a .parses)
+
+  module _ (q : Rule) (x : PreparedIs p q) (forward : List ℕ) (f : Filled flag rule false forward) where
+    pub on-top : q .forward .top ≡ length ps
+    on-top = x .on-top ∙ positions-are flag rule p hp z
+
+    pub onward : Encodes 64 ps (λ c. getD forward c 0) (q .forward .repeats) (q .forward .optional)
+    onward =
+        subst (λ (R : ℕ). Encodes 64 ps (λ c. getD forward c 0) R (q .forward .optional)) (sym (x .on-repeats))
+        (subst (λ (A : ℕ). Encodes 64 ps (λ c. getD forward c 0) (p .repeats) A) (sym (x .on-optional)) (encodes-forwards flag rule p hp z forward f))
+
+    pub on-fits : Tables forward (q .forward)
+    on-fits = record { long = f .long; top = omega (arith, x .on-top, hp .few) }
+
+-- ---- `search_accepted`
+
+module _ (flag : ℕ) (rule : List ℕ) (p : Prepared) (text listed : ℕ) (r : Ready flag rule p text listed) where
+  pub fillable : (table : List ℕ) → length table ≡ 256 → Fillable flag rule (p .positions) table
+  fillable table l = may-fill flag rule p (r .prepares) (r .accepted) table l
+
+  pub search-fits : SearchFits text listed
+  search-fits = record { small = r .small; room = r .room }
+
+  pub few : p .positions ≤ 63
+  few = r .prepares .few
+
+  module _ (bytes : T (all isByte rule)) (forward reversed : List ℕ) (q : Rule) (x : PreparedIs p q) (f : Filled flag rule false forward) (b : Filled flag rule true reversed) where
+    rule-of : RuleOf (rulePositions (foldFlag flag) rule) forward reversed q
+    rule-of =
+        let hp = r .prepares in
+        let z = r .accepted in
+        let ok = rule-is-ok flag rule p hp z bytes in
+        record {
+          mirrors = record {
+            inhabited = ok .inhabited;
+            some = ok .not-empty;
+            top = x .back-top ∙ positions-are flag rule p hp z;
+            size = x .size ∙ shortest-is flag rule p hp z;
+            backward = encodes-reversed flag rule p hp z reversed b (q .reversed .repeats) (q .reversed .optional) (x .back-repeats) (x .back-optional);
+          };
+          top = on-top flag rule p hp z q x forward f;
+          onward = onward flag rule p hp z q x forward f;
+        }
+
+    pub back-fits : Tables reversed (q .reversed)
+    back-fits = let n = r .prepares .few in let back = x .back-top in record { long = b .long; top = omega arith }
+
+    pub rule-fits : {first : List ℕ} → FirstIs reversed (q .reversed) first → RuleFits forward reversed first q
+    rule-fits i =
+        let m = rule-of in
+        let s : q .shortest ≡ shortest (rulePositions (foldFlag flag) rule) = m .mirrors .size in
+        let o = m .mirrors .some in
+        let n = r .prepares .few in
+        let w = shortest-length (rulePositions (foldFlag flag) rule) in
+        record {
+          on = on-fits flag rule p (r .prepares) (r .accepted) q x forward f;
+          backs = record {
+            back = back-fits;
+            firsts = i;
+            some = omega arith;
+            small = omega (arith, w, positions-are flag rule p (r .prepares) (r .accepted));
+          };
+        }
+
+    module _ (tx l₀ : List ℕ) (et : length tx ≡ text) (el : length l₀ ≡ listed) (g : Found) (l : List ℕ) (y : SearchedIs forward reversed q tx l₀ g l) where
+      pub work-done : WorkIs flag rule tx l₀ (answering 0 0 (g .count) (g .windows)) l
+      work-done = let m = y .means (rulePositions (foldFlag flag) rule) rule-of in record { answers = ap₂ (answering 0 0) (m .count) (m .windows); lists = m .list }
+
+-- ---- `search`
+
+module _ (flag : ℕ) (rule text list : List ℕ) (p : Prepared) (hp : Prepares flag rule p) where
+  pub search-refused : (p .number ≡ 0 → ⊥) → (a : Answer) → a ≡ answering (p .number) (p .place) 0 0 → SearchIs flag rule text list a list
+  search-refused z a e = let q = is-refused flag rule p hp z in record { answers = rw q e; lists = rw q }
+
+  module _ (z : p .number ≡ 0) (n : ℕ) (w : WholeIs (length text) (length list) n) where
+    pub search-not-whole : (n ≡ 0 → ⊥) → (a : Answer) → a ≡ answering n 0 0 0 → SearchIs flag rule text list a list
+    search-not-whole k a e =
+        let h = is-accepted flag rule p hp z .parses in
+        let i = w .is in
+        let b = ne-eqb (wholeRefusal (length text) (length list)) 0 (λ q. k (i ∙ q)) in
+        record { answers = rw (h, b) (e ∙ ap (λ (n : ℕ). answering n 0 0 0) i); lists = rw (h, b) }
+
+    pub search-ready : n ≡ 0 → Ready flag rule p (length text) (length list)
+    search-ready k = let s = w .small k in record { prepares = hp; accepted = z; small = omega arith; room = w .room k }
+
+    pub search-done : n ≡ 0 → (a : Answer) (list′ : List ℕ) → WorkIs flag rule text list a list′ → SearchIs flag rule text list a list′
+    search-done k a list′ x =
+        let h = is-accepted flag rule p hp z in
+        let i = w .is in
+        let b = eq-eqb (wholeRefusal (length text) (length list)) 0 (sym i ∙ k) in
+        let q : rulePositions (foldFlag flag) rule ≡ positions (foldFlag flag) (h .elements) = ap (positionsBy (foldFlag flag)) (h .parses) in
+        record {
+          answers = rw (h .parses, b) (x .answers ∙ ap (λ (ps : List Position). answering 0 0 (length (starts ps text)) (length (windows ps text))) q);
+          lists = rw (h .parses, b) (x .lists ∙ ap (λ (ps : List Position). overwrite list (starts ps text)) q);
+        }
+
+-- ---- `jazhuppe_prepare`
+
+by-rule : (flag : ℕ) (x : Parsed) (p : Prepared) → p ≡ preparedBy (foldFlag flag) x
+    → record { number = p .number; place = p .place; positions = p .positions; shortest = p .shortest } ≡ prepareAnswer flag x
+by-rule flag (refused n q) p e = rw e
+by-rule flag (accepted es) p e = rw e
+
+pub prepare-answers : {flag : ℕ} {rule : List ℕ} {p : Prepared} → Prepares flag rule p
+    → PrepareIs flag rule (record { number = p .number; place = p .place; positions = p .positions; shortest = p .shortest })
+unfolding prepared
+prepare-answers {flag} {rule} {p} hp = by-rule flag (parse (foldFlag flag) rule) p (hp .is)

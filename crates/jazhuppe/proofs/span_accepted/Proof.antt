@@ -1,0 +1,36 @@
+-- `jazhuppe::span_accepted` meets its contract. Its laws are in this crate's `proofs/`; `search LAW` finds a law's premises in `c`. Assumes nothing.
+use mathlib.Core.Path.{refl}
+use Rattle.jazhuppe.proofs.Parts.{bytes-known}
+use Rattle.jazhuppe.proofs.Shows.{shown-fillable, part-shown}
+use borrow.Author.Needs.{needs}
+use Rattle.jazhuppe.proofs.span_accepted.Statement.{statement}
+use Rattle.jazhuppe.proofs.span_accepted.Tie as tie
+
+rule-of-requires : tie.Need-rule-of-requires
+rule-of-requires c κs = search needs
+
+slice-aggregate-fill : tie.Need-slice-aggregate-fill
+slice-aggregate-fill c = search needs
+
+fill-requires : tie.Need-fill-requires
+fill-requires c κs = search (shown-fillable, refl)
+
+slice-aggregate-part-from : tie.Need-slice-aggregate-part-from
+slice-aggregate-part-from c = search needs
+
+part-from-requires : tie.Need-part-from-requires
+part-from-requires c κs = search needs
+
+returns : tie.Need-returns
+returns c = search (part-shown, bytes-known)
+
+pub span-accepted-spec : {M : Type 1} → statement M
+span-accepted-spec =
+    tie.close
+    (tie.spec
+    rule-of-requires
+    slice-aggregate-fill
+    fill-requires
+    slice-aggregate-part-from
+    part-from-requires
+    returns)

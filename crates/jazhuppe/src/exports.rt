@@ -1,0 +1,72 @@
+// The calls of the C interface, include/jazhuppe.h. A slice is a pointer and a length there.
+ghost use Rattle.reference_decoder.specs.Decoder.{DecodeIs};
+ghost use Rattle.scan.specs.Opening.{OpenIs};
+ghost use Rattle.scan.specs.Calls.{FeedIs, FinishIs};
+ghost use Rattle.jazhuppe.specs.Preparing.{PrepareIs};
+ghost use Rattle.jazhuppe.specs.Searching.{SearchIs};
+ghost use Rattle.jazhuppe.specs.Showing.{ShownIs};
+use reference_decoder::Answer;
+use scan::Opened;
+use window_search::Span;
+
+// Prepares a rule: its refusal, or its counts.
+#[no_mangle]
+pub extern "C" fn jazhuppe_prepare(rule: &[u8], fold: u32) -> Opened
+    ensures { λ r. ⌜ PrepareIs fold (now (rule .entry)) r ⌝ }
+{
+    let p = rule_compiler::prepare(rule, fold);
+    Opened {
+        number: p.number,
+        place: p.place,
+        positions: p.positions,
+        shortest: p.shortest,
+    }
+}
+
+// Opens a scan for a rule.
+#[no_mangle]
+pub extern "C" fn jazhuppe_open(rule: &[u8], fold: u32, scan: &mut [u64]) -> Opened
+    ensures { λ r. ⌜ OpenIs fold (now (rule .entry)) (now (scan .entry)) r (now (scan .exit)) ⌝ }
+{
+    scan::open(rule, fold, scan)
+}
+
+// Feeds a piece to a scan.
+#[no_mangle]
+pub extern "C" fn jazhuppe_feed(scan: &mut [u64], piece: &[u8], ends: &mut [u32]) -> Answer
+    ensures { λ r. ⌜ FeedIs (now (scan .entry)) (now (piece .entry)) (now (ends .entry)) r (now (scan .exit)) (now (ends .exit)) ⌝ }
+{
+    scan::feed(scan, piece, ends)
+}
+
+// Finishes a scan.
+#[no_mangle]
+pub extern "C" fn jazhuppe_finish(scan: &mut [u64], ends: &mut [u32]) -> Answer
+    ensures { λ r. ⌜ FinishIs (now (scan .entry)) (now (ends .entry)) r (now (scan .exit)) (now (ends .exit)) ⌝ }
+{
+    scan::finish(scan, ends)
+}
+
+// Decodes a whole plan.
+#[no_mangle]
+pub extern "C" fn jazhuppe_decode(raw: &[u8], out: &mut [u8]) -> Answer
+    ensures { λ r. ⌜ DecodeIs (now (raw .entry)) (now (out .entry)) r (now (out .exit)) ⌝ }
+{
+    reference_decoder::decode(raw, out)
+}
+
+// Searches a whole decoded text.
+#[no_mangle]
+pub extern "C" fn jazhuppe_search(rule: &[u8], fold: u32, text: &[u8], starts: &mut [u32]) -> Answer
+    ensures { λ r. ⌜ SearchIs fold (now (rule .entry)) (now (text .entry)) (now (starts .entry)) r (now (starts .exit)) ⌝ }
+{
+    crate::search(rule, fold, text, starts)
+}
+
+// The part of a text that is shown, as its two places: no reference is returned through this interface.
+#[no_mangle]
+pub extern "C" fn jazhuppe_show(rule: &[u8], fold: u32, text: &[u8], start: usize) -> Span
+    ensures { λ r. ⌜ ShownIs fold (now (rule .entry)) (now (text .entry)) start r ⌝ }
+{
+    crate::span(rule, fold, text, start)
+}

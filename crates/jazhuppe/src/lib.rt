@@ -1,0 +1,143 @@
+// The finder's calls.
+ghost use mathlib.Core.Path.{_≡_};
+ghost use Prim.Native.Nat.{_<_, _≤_};
+ghost use lib.ListN.{length};
+ghost use Rattle.jazhuppe.specs.Searching.{answering, WholeIs, Ready, PreparedIs, WorkIs, SearchIs};
+ghost use denote.Ref.{ptr};
+ghost use Rattle.jazhuppe.specs.Showing.{Showable, PartIs, ShownIs, ShowsPart};
+
+pub mod exports;
+
+use reference_decoder::Answer;
+use rule_compiler::Prepared;
+use window_search::Rule;
+use window_search::Span;
+use shift_and_step::Masks;
+
+// The number of the refusal of a call on a whole text with a list of so many entries, or 0.
+fn whole(text: usize, list: usize) -> u32
+    ensures { λ r. ⌜ WholeIs text list r ⌝ }
+{
+    if text > 0xffff_ffff {
+        return 10;
+    }
+    if list < text {
+        return 9;
+    }
+    0
+}
+
+// A prepared rule's masks in both directions.
+fn rule_of(p: Prepared) -> Rule
+    requires { ⌜ p .positions ≤ 63 ⌝ }
+    ensures { λ r. ⌜ PreparedIs p r ⌝ }
+{
+    let n = p.positions as u64;
+    let size = p.shortest as usize;
+    let repeats = rule_compiler::tables::mirrored(p.repeats, p.positions);
+    let optional = rule_compiler::tables::mirrored(p.optional, p.positions);
+    let forward = Masks {
+        repeats: p.repeats,
+        optional: p.optional,
+        top: n,
+    };
+    let reversed = Masks {
+        repeats: repeats,
+        optional: optional,
+        top: n,
+    };
+    Rule {
+        shortest: size,
+        forward: forward,
+        reversed: reversed,
+    }
+}
+
+// An answer with a number and a place, or with counts.
+fn answer(number: u32, place: u32, count: u32, windows: u32) -> Answer
+    ensures { λ r. ⌜ r ≡ answering number place count windows ⌝ }
+{
+    Answer {
+        number: number,
+        place: place,
+        count: count,
+        windows: windows,
+    }
+}
+
+// The work of an accepted search.
+fn search_accepted(rule: &[u8], fold: u32, p: Prepared, text: &[u8], starts: &mut [u32]) -> Answer
+    requires { ⌜ Ready fold (now rule) p (length (now text)) (length (now starts)) ⌝ }
+    ensures { λ r. ⌜ WorkIs fold (now (rule .entry)) (now (text .entry)) (now (starts .entry)) r (now (starts .exit)) ⌝ }
+{
+    let total = p.positions;
+    let prepared = rule_of(p);
+    let mut forward = [0u64; 256];
+    rule_compiler::tables::fill(rule, fold, total, &mut forward, false);
+    let mut reversed = [0u64; 256];
+    rule_compiler::tables::fill(rule, fold, total, &mut reversed, true);
+    let mut first = [0u64; 256];
+    let back = prepared.reversed;
+    window_reader::first_steps(&reversed, back, &mut first);
+    let f = window_search::search_tables(&forward, &reversed, &first, prepared, text, starts);
+    let count = f.count as u32;
+    let windows = f.windows as u32;
+    answer(0, 0, count, windows)
+}
+
+// Searches a whole decoded text: the starts of occurrences, and how many windows were tried.
+pub fn search(rule: &[u8], fold: u32, text: &[u8], starts: &mut [u32]) -> Answer
+    ensures { λ r. ⌜ SearchIs fold (now (rule .entry)) (now (text .entry)) (now (starts .entry)) r (now (starts .exit)) ⌝ }
+{
+    let p = rule_compiler::prepare(rule, fold);
+    if p.number != 0 {
+        return answer(p.number, p.place, 0, 0);
+    }
+    let number = whole(text.len(), starts.len());
+    if number != 0 {
+        return answer(number, 0, 0, 0);
+    }
+    search_accepted(rule, fold, p, text, starts)
+}
+
+// The work of showing, for an accepted rule.
+fn span_accepted(rule: &[u8], fold: u32, p: Prepared, text: &[u8], start: usize) -> Span
+    requires { ⌜ Showable fold (now rule) p (length (now text)) start ⌝ }
+    ensures { λ r. ⌜ PartIs fold (now (rule .entry)) (now (text .entry)) start r ⌝ }
+{
+    let total = p.positions;
+    let prepared = rule_of(p);
+    let mut forward = [0u64; 256];
+    rule_compiler::tables::fill(rule, fold, total, &mut forward, false);
+    let on = prepared.forward;
+    window_search::part_from(&forward, on, text, start)
+}
+
+// The part of the text that is shown, as its two places.
+fn span(rule: &[u8], fold: u32, text: &[u8], start: usize) -> Span
+    ensures { λ r. ⌜ ShownIs fold (now (rule .entry)) (now (text .entry)) start r ⌝ }
+{
+    let len = text.len();
+    let p = rule_compiler::prepare(rule, fold);
+    if p.number != 0 {
+        return Span { from: len, to: len };
+    }
+    if len > 0xffff_ffff {
+        return Span { from: len, to: len };
+    }
+    if start > len {
+        return Span { from: len, to: len };
+    }
+    span_accepted(rule, fold, p, text, start)
+}
+
+// Shows an occurrence: that part of the caller's text from the start to the earliest end there, or the
+// empty part at the text's end.
+pub fn show<'a>(rule: &[u8], fold: u32, text: &'a [u8], start: usize) -> &'a [u8]
+    ensures { λ r. ⌜ ShowsPart fold (now (rule .entry)) (now (text .entry)) (ptr (text .entry)) start (now r) (ptr r) ⌝ }
+{
+    let s = span(rule, fold, text, start);
+    let from = s.from;
+    let to = s.to;
+    &text[from..to]
+}

@@ -1,0 +1,48 @@
+-- `literal_run::any_amp` meets its contract. Its laws are in this crate's `proofs/`; `search LAW` finds a law's premises in `c`. Assumes nothing.
+use Rattle.byte_search.specs.Looks.{same}
+use Rattle.byte_search.proofs.LookLaws.{Looking, look-begun, same-on, look-over}
+use Prim.Native.Nat.{_-_}
+use borrow.Author.Needs.{needs}
+use Rattle.literal_run.proofs.any_amp.Statement.{statement}
+use Rattle.literal_run.proofs.any_amp.Tie as tie
+
+abbrev Inv-loop : tie.InvT-loop
+Inv-loop s i z₀ j₀ z j = Looking (same s 38) i 32 z j
+
+abbrev μ-loop : tie.MeasureT-loop
+μ-loop s i z₀ j₀ z j = 32 - j
+
+loop-holds : tie.Need-loop-holds Inv-loop μ-loop
+loop-holds c = look-begun _ _ _
+
+add-z : tie.Need-add-z Inv-loop μ-loop
+add-z c = search needs
+
+shared-slice-read-z : tie.Need-shared-slice-read-z Inv-loop μ-loop
+shared-slice-read-z c = search needs
+
+add-j : tie.Need-add-j Inv-loop μ-loop
+add-j c = search needs
+
+loop-less : tie.Need-loop-less Inv-loop μ-loop
+loop-less c = search needs
+
+loop-again : tie.Need-loop-again Inv-loop μ-loop
+loop-again c = search same-on
+
+returns : tie.Need-returns Inv-loop μ-loop
+returns c = search look-over
+
+pub any-amp-spec : {M : Type 1} → statement M
+any-amp-spec =
+    tie.close
+    (tie.spec
+    Inv-loop
+    μ-loop
+    loop-holds
+    add-z
+    shared-slice-read-z
+    add-j
+    loop-less
+    loop-again
+    returns)

@@ -1,0 +1,216 @@
+// Copying runs of bytes without a `&`: by blocks of 32 bytes, the last one a part of a block.
+ghost use mathlib.Core.Path.{_≡_};
+ghost use mathlib.Core.Bool.{cond};
+ghost use mathlib.Core.List.{_++_};
+ghost use Prim.Native.Nat.{_+_, _≤_};
+ghost use lib.ListN.{length, take, drop};
+ghost use lib.Seq.{sets};
+ghost use Rattle.byte_search.specs.Looks.{Looked, Missed, same};
+ghost use Rattle.literal_run.specs.Runs.{Copied, RestCopied, RunCopied, BlocksSpilled, RunSpilled};
+
+// Whether one of the 32 bytes from i on is a `&`. No early exit, so that it compiles to vector
+// instructions.
+fn any_amp(s: &[u8], i: usize) -> bool
+    requires { ⌜ i + 32 ≤ length (now s) ⌝ }
+    ensures { λ r. ⌜ Looked (same (now (s .entry)) 38) i 32 r ⌝ }
+{
+    let mut z = false;
+    let mut j = 0;
+    while j < 32 {
+        z = z | (s[i + j] == b'&');
+        j += 1;
+    }
+    z
+}
+
+// The 32 bytes from i on.
+fn block_at(s: &[u8], i: usize) -> [u8; 32]
+    requires { ⌜ i + 32 ≤ length (now s) ⌝ }
+    ensures { λ r. ⌜ r ≡ take 32 (drop i (now (s .entry))) ⌝ }
+{
+    let mut block = [0u8; 32];
+    let mut j = 0;
+    while j < 32 {
+        block[j] = s[i + j];
+        j += 1;
+    }
+    block
+}
+
+// Writes a block from i on.
+fn put_block(block: [u8; 32], i: usize, out: &mut [u8])
+    requires { ⌜ i + 32 ≤ length (now out) ⌝ }
+    ensures { λ r. ⌜ now (out .exit) ≡ sets (now (out .entry)) i block ⌝ }
+{
+    let mut j = 0;
+    while j < 32 {
+        out[i + j] = block[j];
+        j += 1;
+    }
+}
+
+// Copies the 32 bytes from i on to the same place of `out`. All are read before the first is written,
+// so that the compiler need not ask whether the two slices overlap.
+fn copy_block(raw: &[u8], i: usize, out: &mut [u8])
+    requires { ⌜ i + 32 ≤ length (now raw) ⌝ }
+    requires { ⌜ i + 32 ≤ length (now out) ⌝ }
+    ensures { λ r. ⌜ now (out .exit) ≡ sets (now (out .entry)) i (take 32 (drop i (now (raw .entry)))) ⌝ }
+{
+    let block = block_at(raw, i);
+    put_block(block, i, out);
+}
+
+fn pick(first: bool, x: u8, y: u8) -> u8
+    ensures { λ r. ⌜ r ≡ cond first x y ⌝ }
+{
+    if first {
+        return x;
+    }
+    y
+}
+
+// The first n bytes of a block, and then those of another. No branch on n, so that it compiles to
+// vector instructions.
+fn mixed(new: [u8; 32], old: [u8; 32], n: u8) -> [u8; 32]
+    requires { ⌜ n ≤ 32 ⌝ }
+    ensures { λ r. ⌜ r ≡ take n new ++ drop n old ⌝ }
+{
+    let mut block = [0u8; 32];
+    let mut j: u8 = 0;
+    while j < 32 {
+        let k = j as usize;
+        block[k] = pick(j < n, new[k], old[k]);
+        j += 1;
+    }
+    block
+}
+
+// Copies the n bytes from i on to the same place of `out`, as a block: the bytes of `out` after them
+// are written with what they are.
+fn copy_part(raw: &[u8], i: usize, n: usize, out: &mut [u8])
+    requires { ⌜ n ≤ 32 ⌝ }
+    requires { ⌜ i + 32 ≤ length (now raw) ⌝ }
+    requires { ⌜ i + 32 ≤ length (now out) ⌝ }
+    ensures { λ r. ⌜ now (out .exit) ≡ sets (now (out .entry)) i (take n (drop i (now (raw .entry)))) ⌝ }
+{
+    let new = block_at(raw, i);
+    let old = block_at(out, i);
+    let k = n as u8;
+    let block = mixed(new, old, k);
+    put_block(block, i, out);
+}
+
+// Copies blocks of 32 bytes to the front of `out`, as far as they have no `&`, and returns how many
+// bytes these are. Each block is looked at and copied in the same turn.
+fn copy_blocks(raw: &[u8], out: &mut [u8]) -> usize
+    requires { ⌜ length (now raw) ≤ length (now out) ⌝ }
+    ensures { λ r. ⌜ Copied (now (raw .entry)) 0 (now (out .entry)) r (now (out .exit)) ⌝ }
+{
+    let mut i = 0;
+    while 32 <= raw.len() - i {
+        if any_amp(raw, i) {
+            return i;
+        }
+        copy_block(raw, i, out);
+        i += 32;
+    }
+    i
+}
+
+// Copies the bytes from i on that stand before the next `&`, byte by byte, to the same place of `out`,
+// and returns where they end.
+fn copy_bytes(raw: &[u8], i: usize, out: &mut [u8]) -> usize
+    requires { ⌜ i ≤ length (now raw) ⌝ }
+    requires { ⌜ length (now raw) ≤ length (now out) ⌝ }
+    ensures { λ r. ⌜ RestCopied (now (raw .entry)) i (now (out .entry)) r (now (out .exit)) ⌝ }
+{
+    let mut i = i;
+    while i < raw.len() {
+        let c = raw[i];
+        if c == b'&' {
+            return i;
+        }
+        out[i] = c;
+        i += 1;
+    }
+    i
+}
+
+// The same by one block, where a `&` is near.
+fn copy_near(raw: &[u8], i: usize, out: &mut [u8]) -> usize
+    requires { ⌜ i + 64 ≤ length (now raw) ⌝ }
+    requires { ⌜ length (now raw) ≤ length (now out) ⌝ }
+    ensures { λ r. ⌜ RestCopied (now (raw .entry)) i (now (out .entry)) r (now (out .exit)) ⌝ }
+{
+    let j = byte_search::first_same(raw, b'&', i);
+    let n = j - i;
+    if 32 < n {
+        return copy_bytes(raw, i, out);
+    }
+    if raw[j] != b'&' {
+        return copy_bytes(raw, i, out);
+    }
+    copy_part(raw, i, n, out);
+    j
+}
+
+// Copies the bytes before the first `&`, or all of them, to the front of `out`, and returns how many.
+pub fn copy_run(raw: &[u8], out: &mut [u8]) -> usize
+    requires { ⌜ length (now raw) ≤ length (now out) ⌝ }
+    ensures { λ r. ⌜ RunCopied (now (raw .entry)) (now (out .entry)) r (now (out .exit)) ⌝ }
+{
+    let i = copy_blocks(raw, out);
+    if raw.len() - i < 64 {
+        return copy_bytes(raw, i, out);
+    }
+    copy_near(raw, i, out)
+}
+
+// ---- into a buffer that is read only as far as it is written
+
+// Copies blocks of 32 bytes to the front of `out`, each before it is looked at, up to one that has a
+// `&` or stands near the end, and returns where that begins.
+fn spill_blocks(raw: &[u8], out: &mut [u8]) -> usize
+    requires { ⌜ length (now raw) ≤ length (now out) ⌝ }
+    ensures { λ r. ⌜ BlocksSpilled (now (raw .entry)) (now (out .entry)) r (now (out .exit)) ⌝ }
+{
+    let mut at = 0;
+    while 64 <= raw.len() - at {
+        copy_block(raw, at, out);
+        if any_amp(raw, at) {
+            return at;
+        }
+        at += 32;
+    }
+    at
+}
+
+// How far from i on, at most 32 bytes, no `&` stands.
+fn near_amp(raw: &[u8], i: usize) -> usize
+    requires { ⌜ i + 64 ≤ length (now raw) ⌝ }
+    ensures { λ r. ⌜ Missed (same (now (raw .entry)) 38) i (i + 32) r ⌝ }
+{
+    let j = byte_search::first_same(raw, b'&', i);
+    let n = j - i;
+    if 32 < n {
+        return i;
+    }
+    j
+}
+
+// Copies the bytes before the first `&`, or all of them, to the front of `out`, and returns how many.
+// What stands after them in `out` may change too.
+pub fn spill_run(raw: &[u8], out: &mut [u8]) -> usize
+    requires { ⌜ length (now raw) ≤ length (now out) ⌝ }
+    ensures { λ r. ⌜ RunSpilled (now (raw .entry)) (now (out .entry)) r (now (out .exit)) ⌝ }
+{
+    let i = spill_blocks(raw, out);
+    if raw.len() - i < 64 {
+        return copy_bytes(raw, i, out);
+    }
+    let j = near_amp(raw, i);
+    if raw[j] == b'&' {
+        return j;
+    }
+    copy_bytes(raw, j, out)
+}

@@ -1,0 +1,99 @@
+// What a piece lets out, decoded into a room, so that it can be stepped over in one run.
+ghost use Prim.Native.Nat.{_+_, _≤_, _<_};
+ghost use lib.ListN.{length};
+ghost use Rattle.piece_decoder.specs.Filling.{TokenIs, FilledIs};
+use reference_decoder::Reference;
+
+// After one token: how far the piece is read and the room written, and whether the rest is held back.
+pub struct Token {
+    pub read: usize,
+    pub written: usize,
+    pub held: bool,
+}
+
+// One reference, or one byte that begins none; or all the rest, if it can still grow.
+fn fill_amp(piece: &[u8], i: usize, room: &mut [u8], at: usize) -> Token
+    requires { ⌜ i < length (now piece) ⌝ }
+    requires { ⌜ at + length (now piece) ≤ length (now room) + i ⌝ }
+    ensures { λ r. ⌜ TokenIs (now (piece .entry)) i (now (room .entry)) at r (now (room .exit)) ⌝ }
+{
+    let found = reference_decoder::read_reference(&piece[i..]);
+    match found {
+        Reference::Code(code, k) => {
+            let n = reference_decoder::put_utf8(&mut room[at..], code);
+            let after = i + k;
+            let end = at + n;
+            return Token {
+                read: after,
+                written: end,
+                held: false,
+            };
+        }
+        Reference::Plain => {
+            room[at] = piece[i];
+            let after = i + 1;
+            let end = at + 1;
+            return Token {
+                read: after,
+                written: end,
+                held: false,
+            };
+        }
+        Reference::Open => {
+            return Token {
+                read: i,
+                written: at,
+                held: true,
+            };
+        }
+    }
+}
+
+// The same, or a run of bytes up to the next `&`.
+fn fill_token(piece: &[u8], i: usize, room: &mut [u8], at: usize) -> Token
+    requires { ⌜ i < length (now piece) ⌝ }
+    requires { ⌜ at + length (now piece) ≤ length (now room) + i ⌝ }
+    ensures { λ r. ⌜ TokenIs (now (piece .entry)) i (now (room .entry)) at r (now (room .exit)) ⌝ }
+{
+    if piece[i] == b'&' {
+        return fill_amp(piece, i, room, at);
+    }
+    let n = literal_run::spill_run(&piece[i..], &mut room[at..]);
+    let after = i + n;
+    let end = at + n;
+    Token {
+        read: after,
+        written: end,
+        held: false,
+    }
+}
+
+// How far the piece is let out, and the room written.
+pub struct Filled {
+    pub kept: usize,
+    pub written: usize,
+}
+
+// Decodes all that the piece lets out to the front of the room.
+pub fn fill(piece: &[u8], room: &mut [u8]) -> Filled
+    requires { ⌜ length (now piece) ≤ length (now room) ⌝ }
+    ensures { λ r. ⌜ FilledIs (now (piece .entry)) (now (room .entry)) r (now (room .exit)) ⌝ }
+{
+    let mut i = 0;
+    let mut at = 0;
+    while i < piece.len() {
+        let t = fill_token(piece, i, room, at);
+        if t.held {
+            return Filled {
+                kept: t.read,
+                written: t.written,
+            };
+        }
+        i = t.read;
+        at = t.written;
+    }
+    Filled {
+        kept: i,
+        written: at,
+    }
+}

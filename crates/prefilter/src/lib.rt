@@ -1,0 +1,433 @@
+// How to pass over bytes in the opening state of a rule, read off its table and masks before the
+// text is looked at. Which plan is made is a choice of speed; each keeps what it promises.
+ghost use mathlib.Core.Path.{_≡_};
+ghost use Prim.Native.Nat.{_-_, _<_, _≤_, _^_};
+ghost use lib.ListN.{length};
+ghost use Rattle.byte_search.specs.Looks.{Missed, meets};
+ghost use Rattle.prefilter.specs.Plans.{Home, Union, Others, Clear, Plain, Fit, Planned};
+use byte_search::index;
+
+// Kinds of plan: bytes of the opening state `home` are passed over not at all, or to the next byte
+// whose entry meets `next`, which may be the byte lo, or a byte from lo to hi; or to the next start
+// that has the byte lo at the offset a and hi at b.
+pub const NO_SKIP: u64 = 0;
+
+pub const BY_TABLE: u64 = 1;
+
+pub const BY_BYTE: u64 = 2;
+
+pub const BY_RANGE: u64 = 3;
+
+pub const BY_PAIR: u64 = 4;
+
+pub struct Plan {
+    pub kind: u64,
+    pub home: u64,
+    pub next: u64,
+    pub lo: u8,
+    pub hi: u8,
+    pub a: usize,
+    pub b: usize,
+}
+
+// From how many bytes on a plan pays for its making (some 75 ns).
+const PLANS_PAY: usize = 256;
+
+// The plan for a text of `len` bytes.
+pub fn plan_of(table: &[u64], repeats: u64, optional: u64, top: u64, len: usize) -> Plan
+    requires { ⌜ length (now table) ≡ 256 ⌝ }
+    requires { ⌜ top < 64 ⌝ }
+    ensures { λ r. ⌜ Planned (now (table .entry)) repeats optional top r ⌝ }
+{
+    let home = shift_and::opening(optional);
+    let next = (home << 1) | (home & repeats);
+    if len < PLANS_PAY {
+        return Plan {
+            kind: NO_SKIP,
+            home: home,
+            next: next,
+            lo: 0,
+            hi: 0,
+            a: 0,
+            b: 0,
+        };
+    }
+    if shift_and::reports(home, top) {
+        return Plan {
+            kind: NO_SKIP,
+            home: home,
+            next: next,
+            lo: 0,
+            hi: 0,
+            a: 0,
+            b: 0,
+        };
+    }
+    plan_pair(table, repeats, optional, top, home, next)
+}
+
+// A plan by the bytes that leave.
+fn plan_skip(table: &[u64], repeats: u64, optional: u64, top: u64, home: u64, next: u64) -> Plan
+    requires { ⌜ length (now table) ≡ 256 ⌝ }
+    requires { ⌜ Home repeats optional top home next ⌝ }
+    ensures { λ r. ⌜ Planned (now (table .entry)) repeats optional top r ⌝ }
+{
+    let lo = first_leaving(table, next);
+    let past = past_leaving(table, next);
+    if past <= lo {
+        return Plan {
+            kind: BY_TABLE,
+            home: home,
+            next: next,
+            lo: 0,
+            hi: 0,
+            a: 0,
+            b: 0,
+        };
+    }
+    if !all_leave(table, next, lo, past) {
+        return Plan {
+            kind: BY_TABLE,
+            home: home,
+            next: next,
+            lo: 0,
+            hi: 0,
+            a: 0,
+            b: 0,
+        };
+    }
+    let first = lo as u8;
+    let last = (past - 1) as u8;
+    if first == last {
+        return Plan {
+            kind: BY_BYTE,
+            home: home,
+            next: next,
+            lo: first,
+            hi: first,
+            a: 0,
+            b: 0,
+        };
+    }
+    Plan {
+        kind: BY_RANGE,
+        home: home,
+        next: next,
+        lo: first,
+        hi: last,
+        a: 0,
+        b: 0,
+    }
+}
+
+// The first byte whose entry meets `next`, or 256.
+fn first_leaving(table: &[u64], next: u64) -> usize
+    requires { ⌜ length (now table) ≡ 256 ⌝ }
+    ensures { λ r. ⌜ Missed (meets (now (table .entry)) next) 0 256 r ⌝ }
+{
+    let mut c = 0;
+    while c < 256 {
+        if table[c] & next != 0 {
+            return c;
+        }
+        c += 1;
+    }
+    c
+}
+
+// One more than the last byte whose entry meets `next`, or 0.
+fn past_leaving(table: &[u64], next: u64) -> usize
+    requires { ⌜ length (now table) ≡ 256 ⌝ }
+    ensures { λ r. ⌜ Missed (meets (now (table .entry)) next) r 256 256 ⌝ }
+{
+    let mut c = 256;
+    while 0 < c {
+        if table[c - 1] & next != 0 {
+            return c;
+        }
+        c -= 1;
+    }
+    c
+}
+
+// Whether every byte from lo up to `past` has an entry that meets `next`. Only a choice hangs on
+// it.
+fn all_leave(table: &[u64], next: u64, lo: usize, past: usize) -> bool
+    requires { ⌜ length (now table) ≡ 256 ⌝ }
+    requires { ⌜ past ≤ 256 ⌝ }
+{
+    let mut c = lo;
+    while c < past {
+        if table[c] & next == 0 {
+            return false;
+        }
+        c += 1;
+    }
+    true
+}
+
+// A plan by a pair of rare bytes in the plain beginning, or by the bytes that leave.
+fn plan_pair(table: &[u64], repeats: u64, optional: u64, top: u64, home: u64, next: u64) -> Plan
+    requires { ⌜ length (now table) ≡ 256 ⌝ }
+    requires { ⌜ top < 64 ⌝ }
+    requires { ⌜ Home repeats optional top home next ⌝ }
+    ensures { λ r. ⌜ Planned (now (table .entry)) repeats optional top r ⌝ }
+{
+    if home != 1 {
+        return plan_skip(table, repeats, optional, top, home, next);
+    }
+    let free = plain_bits(repeats, optional, top);
+    if u64::count_ones(free) < 2 {
+        return plan_skip(table, repeats, optional, top, home, next);
+    }
+    let f = choose(table, free, 0);
+    let p = f.bit;
+    if 62 < p {
+        return plan_skip(table, repeats, optional, top, home, next);
+    }
+    let g = choose(table, free & !power(p), f.rank);
+    pair_or_skip(
+        table,
+        repeats,
+        optional,
+        top,
+        home,
+        next,
+        p,
+        g.bit,
+        f.byte,
+        g.byte,
+    )
+}
+
+// The positions of the plain beginning, those before the first that is optional or repeats. Only a
+// choice: it promises nothing.
+fn plain_bits(repeats: u64, optional: u64, top: u64) -> u64
+    requires { ⌜ top < 64 ⌝ }
+{
+    let busy = optional | repeats;
+    let below_busy = std::num::wrapping_sub_u64(busy, 1) & !busy;
+    let t = top as u32;
+    let up_to_top = std::num::wrapping_sub_u64(power(t) << 1, 1);
+    below_busy & up_to_top & !1
+}
+
+// A byte, its rank among the rare ones, and a bit of its entry.
+pub struct Choice {
+    pub rank: usize,
+    pub byte: u8,
+    pub bit: u32,
+}
+
+// The bits of `free` that the entry of c has, and neither its neighbours' nor the other case's: a class
+// that c is one of shows there mostly. Only a choice.
+fn lone(table: &[u64], free: u64, c: u8) -> u64
+    requires { ⌜ length (now table) ≡ 256 ⌝ }
+{
+    let e = table[index(c)] & free;
+    if e == 0 {
+        return 0;
+    }
+    let before = index(std::num::wrapping_sub_u8(c, 1));
+    let after = index(std::num::wrapping_add_u8(c, 1));
+    let other = index(c ^ 32);
+    e & !(table[before] | table[after] | table[other])
+}
+
+// The rarest byte in common text, from a rank on, that seems to stand alone at a position of `free`, and
+// the lowest such; bit 64 if there is none. Only a choice: it promises nothing.
+fn choose(table: &[u64], free: u64, rank: usize) -> Choice
+    requires { ⌜ length (now table) ≡ 256 ⌝ }
+{
+    let rare =
+        b"`~^|@#$%&*=+{}[]\\<>_?!;\"'()/QZXKJVWYUGFHBPMLDNRTOIACES:-qzxjkv7896534102\x80\x81\x82\x83\x84\x85\x86\x87\x88\x89\x8a\x8b\x8c\x8d\x8e\x8f\x90\x91\x92\x93\x94\x95\x96\x97\x98\x99\x9a\x9b\x9c\x9d\x9e\x9f\xa0\xa1\xa2\xa3\xa4\xa5\xa6\xa7\xa8\xa9\xaa\xab\xac\xad\xae\xaf\xb0\xb1\xb2\xb3\xb4\xb5\xb6\xb7\xb8\xb9\xba\xbb\xbc\xbd\xbe\xbf\xc0\xc1\xc2\xc3\xc4\xc5\xc6\xc7\xc8\xc9\xca\xcb\xcc\xcd\xce\xcf\xd0\xd1\xd2\xd3\xd4\xd5\xd6\xd7\xd8\xd9\xda\xdb\xdc\xdd\xde\xdf\xe0\xe1\xe2\xe3\xe4\xe5\xe6\xe7\xe8\xe9\xea\xeb\xec\xed\xee\xef\xf0\xf1\xf2\xf3\xf4\xf5\xf6\xf7\xf8\xf9\xfa\xfb\xfc\xfd\xfe\xff\x00\x01\x02\x03\x04\x05\x06\x07\x08\x0b\x0c\x0e\x0f\x10\x11\x12\x13\x14\x15\x16\x17\x18\x19\x1a\x1b\x1c\x1d\x1e\x1f\x7fwyfgbpmucdlhrsnio,.ate\t\r\n ";
+    let mut r = rank;
+    while r < rare.len() {
+        let c = rare[r];
+        let e = lone(table, free, c);
+        if e != 0 {
+            return Choice {
+                rank: r,
+                byte: c,
+                bit: u64::trailing_zeros(e),
+            };
+        }
+        r += 1;
+    }
+    Choice {
+        rank: r,
+        byte: 0,
+        bit: 64,
+    }
+}
+
+// A plan by the positions p and q with their bytes, in whichever order they stand, if they fit.
+fn pair_or_skip(
+    table: &[u64],
+    repeats: u64,
+    optional: u64,
+    top: u64,
+    home: u64,
+    next: u64,
+    p: u32,
+    q: u32,
+    x: u8,
+    y: u8,
+) -> Plan
+    requires { ⌜ length (now table) ≡ 256 ⌝ }
+    requires { ⌜ Home repeats optional top home next ⌝ }
+    requires { ⌜ home ≡ 1 ⌝ }
+    ensures { λ r. ⌜ Planned (now (table .entry)) repeats optional top r ⌝ }
+{
+    if p < q {
+        return pair_in_order(table, repeats, optional, top, home, next, p, q, x, y);
+    }
+    pair_in_order(table, repeats, optional, top, home, next, q, p, y, x)
+}
+
+// The same where p is to come first.
+fn pair_in_order(
+    table: &[u64],
+    repeats: u64,
+    optional: u64,
+    top: u64,
+    home: u64,
+    next: u64,
+    p: u32,
+    q: u32,
+    x: u8,
+    y: u8,
+) -> Plan
+    requires { ⌜ length (now table) ≡ 256 ⌝ }
+    requires { ⌜ Home repeats optional top home next ⌝ }
+    requires { ⌜ home ≡ 1 ⌝ }
+    ensures { λ r. ⌜ Planned (now (table .entry)) repeats optional top r ⌝ }
+{
+    if fits(table, repeats, optional, top, p, q, x, y) {
+        return Plan {
+            kind: BY_PAIR,
+            home: home,
+            next: next,
+            lo: x,
+            hi: y,
+            a: offset(p),
+            b: offset(q),
+        };
+    }
+    plan_skip(table, repeats, optional, top, home, next)
+}
+
+// A position's offset from the start.
+fn offset(p: u32) -> usize
+    ensures { λ r. ⌜ r ≡ p - 1 ⌝ }
+{
+    if p == 0 {
+        return 0;
+    }
+    (p - 1) as usize
+}
+
+// Whether the bits p and q are those of two positions with one byte each, x and y, in a plain
+// beginning.
+fn fits(table: &[u64], repeats: u64, optional: u64, top: u64, p: u32, q: u32, x: u8, y: u8) -> bool
+    requires { ⌜ length (now table) ≡ 256 ⌝ }
+    ensures { λ r. ⌜ Fit (now (table .entry)) repeats optional top p q x y r ⌝ }
+{
+    if !plain(repeats, optional, top, p, q) {
+        return false;
+    }
+    let rest = others(table, x, y);
+    if !clear(table, rest, p, y) {
+        return false;
+    }
+    clear(table, rest, q, x)
+}
+
+// The bits of the entries from lo up to hi.
+fn union(table: &[u64], lo: usize, hi: usize) -> u64
+    requires { ⌜ length (now table) ≡ 256 ⌝ }
+    requires { ⌜ hi ≤ 256 ⌝ }
+    ensures { λ r. ⌜ Union (now (table .entry)) lo hi r ⌝ }
+{
+    let mut u: u64 = 0;
+    let mut c = lo;
+    while c < hi {
+        u = u | table[c];
+        c += 1;
+    }
+    u
+}
+
+// The bits of all the entries but two.
+fn others_in_order(table: &[u64], lo: usize, hi: usize) -> u64
+    requires { ⌜ length (now table) ≡ 256 ⌝ }
+    requires { ⌜ lo ≤ hi ⌝ }
+    requires { ⌜ hi < 256 ⌝ }
+    ensures { λ r. ⌜ Others (now (table .entry)) lo hi r ⌝ }
+{
+    let u = union(table, 0, lo);
+    let v = union(table, lo + 1, hi);
+    let w = union(table, hi + 1, 256);
+    u | v | w
+}
+
+// The same in any order.
+fn others(table: &[u64], x: u8, y: u8) -> u64
+    requires { ⌜ length (now table) ≡ 256 ⌝ }
+    ensures { λ r. ⌜ Others (now (table .entry)) x y r ⌝ }
+{
+    let i = index(x);
+    let j = index(y);
+    if i < j {
+        return others_in_order(table, i, j);
+    }
+    others_in_order(table, j, i)
+}
+
+// Whether the positions up to q are plain (neither optional nor repeating), no end is reported
+// below q, and p is a position before it.
+fn plain(repeats: u64, optional: u64, top: u64, p: u32, q: u32) -> bool
+    ensures { λ r. ⌜ Plain repeats optional top p q r ⌝ }
+{
+    if p < 1 {
+        return false;
+    }
+    if q <= p {
+        return false;
+    }
+    if 62 < q {
+        return false;
+    }
+    let low = below(q + 1);
+    if (optional | repeats) & low != 0 {
+        return false;
+    }
+    q as u64 <= top
+}
+
+// Whether neither `rest` nor the entry of y has bit p.
+fn clear(table: &[u64], rest: u64, p: u32, y: u8) -> bool
+    requires { ⌜ length (now table) ≡ 256 ⌝ }
+    ensures { λ r. ⌜ Clear (now (table .entry)) rest p y r ⌝ }
+{
+    if 63 < p {
+        return false;
+    }
+    let e = table[index(y)];
+    (rest | e) & power(p) == 0
+}
+
+fn power(p: u32) -> u64
+    requires { ⌜ p < 64 ⌝ }
+    ensures { λ r. ⌜ r ≡ 2 ^ p ⌝ }
+{
+    1 << p
+}
+
+// The bits below p.
+fn below(p: u32) -> u64
+    requires { ⌜ p < 64 ⌝ }
+    ensures { λ r. ⌜ r ≡ 2 ^ p - 1 ⌝ }
+{
+    power(p) - 1
+}

@@ -1,0 +1,42 @@
+-- `prefilter_search::find_between` meets its contract. Its laws are in this crate's `proofs/`; `search LAW` finds a law's premises in `c`. Assumes nothing.
+use Rattle.byte_search.proofs.LookLaws.{miss-first, miss-first-then}
+use borrow.Author.Needs.{needs}
+use Rattle.prefilter_search.proofs.find_between.Statement.{statement}
+use Rattle.prefilter_search.proofs.find_between.Tie as tie
+
+sub-if1 : tie.Need-sub-if1
+sub-if1 c = search needs
+
+far-between-requires : tie.Need-far-between-requires
+far-between-requires c κs = search needs
+
+returns : tie.Need-returns
+returns c = search needs
+
+first-between-requires : tie.Need-first-between-requires
+first-between-requires c κs = search needs
+
+sub-if2 : tie.Need-sub-if2
+sub-if2 c = search needs
+
+returns-2 : tie.Need-returns-2
+returns-2 c = search miss-first
+
+far-between-requires-2 : tie.Need-far-between-requires-2
+far-between-requires-2 c κs = search needs
+
+returns-3 : tie.Need-returns-3
+returns-3 c = search miss-first-then
+
+pub find-between-spec : {M : Type 1} → statement M
+find-between-spec =
+    tie.close
+    (tie.spec
+    sub-if1
+    far-between-requires
+    returns
+    first-between-requires
+    sub-if2
+    returns-2
+    far-between-requires-2
+    returns-3)

@@ -1,0 +1,62 @@
+-- `rule_element::class_from` meets its contract. Its laws are in this crate's `proofs/`; `search LAW` finds a law's premises in `c`. Assumes nothing.
+use borrow.Author.Needs.{needs}
+use Rattle.rule_element.proofs.Classes.{class-empty, class-open, class-bare, class-good}
+use Rattle.rule_element.proofs.class_from.Statement.{statement}
+use Rattle.rule_element.proofs.class_from.Tie as tie
+
+peek-requires : tie.Need-peek-requires
+peek-requires c κs = search needs
+
+fault-requires : tie.Need-fault-requires
+fault-requires c κs = search needs
+
+returns : tie.Need-returns
+returns c = search class-empty
+
+read-items-requires : tie.Need-read-items-requires
+read-items-requires c κs = search needs
+
+enum-known-close : tie.Need-enum-known-close
+enum-known-close c = search needs
+
+enum-told : tie.Need-enum-told
+enum-told c = search needs
+
+fault-requires-2 : tie.Need-fault-requires-2
+fault-requires-2 c κs = search needs
+
+returns-2 : tie.Need-returns-2
+returns-2 c = search class-open
+
+class-set-requires : tie.Need-class-set-requires
+class-set-requires c κs = search needs
+
+is-empty-requires : tie.Need-is-empty-requires
+is-empty-requires c κs = search needs
+
+fault-requires-3 : tie.Need-fault-requires-3
+fault-requires-3 c κs = search needs
+
+returns-3 : tie.Need-returns-3
+returns-3 c = search class-bare
+
+returns-4 : tie.Need-returns-4
+returns-4 c = search class-good
+
+pub class-from-spec : {M : Type 1} → statement M
+class-from-spec =
+    tie.close
+    (tie.spec
+    peek-requires
+    fault-requires
+    returns
+    read-items-requires
+    enum-known-close
+    enum-told
+    fault-requires-2
+    returns-2
+    class-set-requires
+    is-empty-requires
+    fault-requires-3
+    returns-3
+    returns-4)

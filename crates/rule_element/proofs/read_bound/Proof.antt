@@ -1,0 +1,62 @@
+-- `rule_element::read_bound` meets its contract. Its laws are in this crate's `proofs/`; `search LAW` finds a law's premises in `c`. Assumes nothing.
+use borrow.Author.Needs.{needs}
+use Rattle.rule_element.proofs.Gaps.{bound-past, bound-none, bound-one, bound-two}
+use Rattle.rule_element.proofs.read_bound.Statement.{statement}
+use Rattle.rule_element.proofs.read_bound.Tie as tie
+
+returns : tie.Need-returns
+returns c = search bound-past
+
+shared-slice-read-digit : tie.Need-shared-slice-read-digit
+shared-slice-read-digit c = search needs
+
+digit-requires : tie.Need-digit-requires
+digit-requires c κs = search needs
+
+returns-2 : tie.Need-returns-2
+returns-2 c = search bound-none
+
+add-peek : tie.Need-add-peek
+add-peek c = search needs
+
+peek-requires : tie.Need-peek-requires
+peek-requires c κs = search needs
+
+digit-requires-2 : tie.Need-digit-requires-2
+digit-requires-2 c κs = search needs
+
+add-t9 : tie.Need-add-t9
+add-t9 c = search needs
+
+returns-3 : tie.Need-returns-3
+returns-3 c = search bound-one
+
+mul-t10 : tie.Need-mul-t10
+mul-t10 c = search needs
+
+add-t11 : tie.Need-add-t11
+add-t11 c = search needs
+
+add-t5 : tie.Need-add-t5
+add-t5 c = search needs
+
+returns-4 : tie.Need-returns-4
+returns-4 c = search bound-two
+
+pub read-bound-spec : {M : Type 1} → statement M
+read-bound-spec =
+    tie.close
+    (tie.spec
+    returns
+    shared-slice-read-digit
+    digit-requires
+    returns-2
+    add-peek
+    peek-requires
+    digit-requires-2
+    add-t9
+    returns-3
+    mul-t10
+    add-t11
+    add-t5
+    returns-4)

@@ -1,0 +1,38 @@
+-- `rule_element::read_class` meets its contract. Its laws are in this crate's `proofs/`; `search LAW` finds a law's premises in `c`. Assumes nothing.
+use borrow.Author.Needs.{needs}
+use Rattle.rule_element.proofs.Classes.{bracket-turned, bracket-plain}
+use Rattle.rule_element.proofs.read_class.Statement.{statement}
+use Rattle.rule_element.proofs.read_class.Tie as tie
+
+add-first : tie.Need-add-first
+add-first c = search needs
+
+peek-requires : tie.Need-peek-requires
+peek-requires c κs = search needs
+
+add-class-from : tie.Need-add-class-from
+add-class-from c = search needs
+
+class-from-requires : tie.Need-class-from-requires
+class-from-requires c κs = search needs
+
+returns : tie.Need-returns
+returns c = search bracket-turned
+
+class-from-requires-2 : tie.Need-class-from-requires-2
+class-from-requires-2 c κs = search needs
+
+returns-2 : tie.Need-returns-2
+returns-2 c = search bracket-plain
+
+pub read-class-spec : {M : Type 1} → statement M
+read-class-spec =
+    tie.close
+    (tie.spec
+    add-first
+    peek-requires
+    add-class-from
+    class-from-requires
+    returns
+    class-from-requires-2
+    returns-2)

@@ -1,0 +1,90 @@
+-- `rule_element::read_gap` meets its contract. Its laws are in this crate's `proofs/`; `search LAW` finds a law's premises in `c`. Assumes nothing.
+use borrow.Author.Needs.{needs}
+use Rattle.rule_element.proofs.Gaps.{gap-bare, gap-comma, gap-bare-2, gap-brace, gap-reversed, gap-zero, gap-good}
+use Rattle.rule_element.proofs.read_gap.Statement.{statement}
+use Rattle.rule_element.proofs.read_gap.Tie as tie
+
+add-first : tie.Need-add-first
+add-first c = search needs
+
+read-bound-requires : tie.Need-read-bound-requires
+read-bound-requires c κs = search needs
+
+fault-requires : tie.Need-fault-requires
+fault-requires c κs = search needs
+
+returns : tie.Need-returns
+returns c = search gap-bare
+
+peek-requires : tie.Need-peek-requires
+peek-requires c κs = search needs
+
+fault-requires-2 : tie.Need-fault-requires-2
+fault-requires-2 c κs = search needs
+
+returns-2 : tie.Need-returns-2
+returns-2 c = search gap-comma
+
+add-second : tie.Need-add-second
+add-second c = search needs
+
+read-bound-requires-2 : tie.Need-read-bound-requires-2
+read-bound-requires-2 c κs = search needs
+
+fault-requires-3 : tie.Need-fault-requires-3
+fault-requires-3 c κs = search needs
+
+returns-3 : tie.Need-returns-3
+returns-3 c = search gap-bare-2
+
+peek-requires-2 : tie.Need-peek-requires-2
+peek-requires-2 c κs = search needs
+
+fault-requires-4 : tie.Need-fault-requires-4
+fault-requires-4 c κs = search needs
+
+returns-4 : tie.Need-returns-4
+returns-4 c = search gap-brace
+
+fault-requires-5 : tie.Need-fault-requires-5
+fault-requires-5 c κs = search needs
+
+returns-5 : tie.Need-returns-5
+returns-5 c = search gap-reversed
+
+fault-requires-6 : tie.Need-fault-requires-6
+fault-requires-6 c κs = search needs
+
+returns-6 : tie.Need-returns-6
+returns-6 c = search gap-zero
+
+add-next : tie.Need-add-next
+add-next c = search needs
+
+returns-7 : tie.Need-returns-7
+returns-7 c = search gap-good
+
+pub read-gap-spec : {M : Type 1} → statement M
+read-gap-spec =
+    tie.close
+    (tie.spec
+    add-first
+    read-bound-requires
+    fault-requires
+    returns
+    peek-requires
+    fault-requires-2
+    returns-2
+    add-second
+    read-bound-requires-2
+    fault-requires-3
+    returns-3
+    peek-requires-2
+    fault-requires-4
+    returns-4
+    fault-requires-5
+    returns-5
+    fault-requires-6
+    returns-6
+    add-next
+    returns-7)

@@ -1,0 +1,23 @@
+-- `rule_element::read_mark` meets its contract. Its laws are in this crate's `proofs/`; `search LAW` finds a law's premises in `c`. Assumes nothing.
+use borrow.Author.Needs.{needs}
+use Rattle.rule_element.proofs.KindLaws.{mark-optional, mark-repeatable, mark-both, mark-once}
+use Rattle.rule_element.proofs.read_mark.Statement.{statement}
+use Rattle.rule_element.proofs.read_mark.Tie as tie
+
+peek-requires : tie.Need-peek-requires
+peek-requires c κs = search needs
+
+returns : tie.Need-returns
+returns c = search mark-optional
+
+returns-2 : tie.Need-returns-2
+returns-2 c = search mark-repeatable
+
+returns-3 : tie.Need-returns-3
+returns-3 c = search mark-both
+
+returns-4 : tie.Need-returns-4
+returns-4 c = search mark-once
+
+pub read-mark-spec : {M : Type 1} → statement M
+read-mark-spec = tie.close (tie.spec peek-requires returns returns-2 returns-3 returns-4)

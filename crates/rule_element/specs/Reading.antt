@@ -1,0 +1,213 @@
+-- What the readers of src/lib.rt find: the model's reading of the bytes from an index on, with the place after it instead of a
+-- count of bytes; and that a reader moves on and stays within the rule. Assumes nothing.
+use mathlib.Core.Path.{_≡_}
+use mathlib.Core.Bool.{Bool, false, cond}
+use mathlib.Core.List.{List}
+use Prim.Native.Nat.{ℕ, suc, _+_, _-_, _≤_, _<_}
+use lib.ListN.{length, drop}
+use lib.Dec.{leb, ltb}
+use Rattle.model.specs.RuleText as Model
+use Rattle.model.specs.RuleText.{noEnd, anEnd, closes, misfit, item, faulty, items, bad, good, byte, any, class, gap, once, optional, repeatable, both, endAt, escapedEnd, itemAt, itemsFrom, boundAt, classOf, kindAt, oftenAt, oftenAfter, markBytes, positionLimit}
+use Rattle.rule_element.specs.declared.End.{End}
+use Rattle.rule_element.specs.declared.End.the-variants.{Byte, Wrong}
+use Rattle.rule_element.specs.declared.Item.{Item}
+use Rattle.rule_element.specs.declared.Item.the-variants.{Wrong as NoItem, Range, Close}
+use Rattle.rule_element.specs.declared.Close.the-variants.{Wrong as NoClose, At}
+use Rattle.rule_element.specs.declared.Items.{Items}
+use Rattle.rule_element.specs.declared.Bound.{Bound}
+use Rattle.rule_element.specs.declared.Kind.{Kind}
+use Rattle.rule_element.specs.declared.Kind.the-variants.{Byte as AByte, Any, Class, Gap}
+use Rattle.rule_element.specs.declared.Spelling.{Spelling}
+use Rattle.rule_element.specs.declared.Spelling.the-variants.{Spelt, Misspelt}
+use Rattle.rule_element.specs.declared.Spelled.{Spelled}
+use Rattle.rule_element.specs.declared.Element.{Element}
+use Rattle.rule_element.specs.declared.Reading.{Reading}
+use Rattle.rule_element.specs.declared.Reading.the-variants.{Got, Refused}
+use Rattle.rule_element.specs.declared.Often.{Often}
+use Rattle.rule_element.specs.declared.Often.the-variants.{Once, Optional, Repeatable, Both}
+use Rattle.rule_element.specs.declared.Read.{Read}
+use Rattle.rule_element.specs.declared.Close.{Close as Closing}
+use Rattle.byte_set.specs.Sets.{addRanges, none, widen, turn}
+
+-- ---- an end
+
+abbrev pub endOf : ℕ → Model.ReadEnd → End
+endOf at noEnd = Wrong
+endOf at (anEnd c n) = Byte c (at + n)
+
+abbrev pub EndMoves : List ℕ → ℕ → End → Type 0
+EndMoves s at Wrong = Unit {0}
+EndMoves s at (Byte c next) = (at < next) × (next ≤ length s)
+
+pub record ReadsEnd (s : List ℕ) (at : ℕ) (r : End) : Type 0 where
+  pub is : r ≡ endOf at (endAt (drop at s))
+  pub moves : EndMoves s at r
+
+-- what stands after the `\` at a place
+pub record ReadsEscape (s : List ℕ) (at : ℕ) (r : End) : Type 0 where
+  pub is : r ≡ endOf at (escapedEnd (drop (suc at) s))
+  pub moves : EndMoves s at r
+
+-- ---- an item of a class
+
+abbrev pub itemOf : ℕ → Model.Item → Item
+itemOf at closes = Close (at + 1)
+itemOf at misfit = NoItem
+itemOf at (item r n) = Range (r .low) (r .high) (at + n)
+
+abbrev pub ItemMoves : List ℕ → ℕ → Item → Type 0
+ItemMoves s at NoItem = Unit {0}
+ItemMoves s at (Close next) = (at < next) × (next ≤ length s)
+ItemMoves s at (Range lo hi next) = (at < next) × (next ≤ length s) × (lo ≤ hi)
+
+pub record ReadsItem (s : List ℕ) (at : ℕ) (r : Item) : Type 0 where
+  pub is : r ≡ itemOf at (itemAt (drop at s))
+  pub moves : ItemMoves s at r
+
+-- ---- the items of a class
+
+-- the set with the ranges added, and the place after the `]`
+abbrev pub collect : List ℕ → Model.Items → Items
+collect w faulty = record { set = none; close = NoClose }
+collect w (items rs n) = record { set = addRanges w rs; close = At n }
+
+abbrev pub CloseMoves : List ℕ → ℕ → Closing → Type 0
+CloseMoves s at NoClose = Unit {0}
+CloseMoves s at (At next) = (at < next) × (next ≤ length s)
+
+-- The model counts the bytes before the first item: here those from the rule's beginning on, so that its count is a place.
+pub record ReadsItems (s : List ℕ) (from : ℕ) (r : Items) : Type 0 where
+  pub is : r ≡ collect none (itemsFrom 0 from (drop from s))
+  pub moves : CloseMoves s from (r .close)
+
+-- ---- a kind
+
+-- A class has the number of the position that it makes, counted from 0: that of the positions used before it.
+abbrev pub kindOf : (used : ℕ) → Model.Kind → Kind
+kindOf used (byte b) = AByte b
+kindOf used any = Any
+kindOf used (class t rs) = Class used
+kindOf used (gap a b) = Gap a b
+
+-- the set that lies beside it
+abbrev pub setOf : (fold : Bool) → Model.Kind → List ℕ
+setOf fold (byte b) = none
+setOf fold any = none
+setOf fold (class t rs) = turn t (widen fold (addRanges none rs))
+setOf fold (gap a b) = none
+
+abbrev pub misspelt : (number : ℕ) → Spelled
+misspelt n = record { answer = Misspelt n; set = none }
+
+abbrev pub spelledBy : (fold : Bool) (used at : ℕ) → Model.ReadKind → Spelled
+spelledBy fold used at (bad n) = misspelt n
+spelledBy fold used at (good k n) = record { answer = Spelt (kindOf used k) (at + n); set = setOf fold k }
+
+-- a gap's bounds are in order and have two digits at most
+abbrev pub KindFits : Kind → Type 0
+KindFits (AByte b) = Unit {0}
+KindFits Any = Unit {0}
+KindFits (Class n) = Unit {0}
+KindFits (Gap a b) = (a ≤ b) × (1 ≤ b) × (b ≤ 99)
+
+abbrev pub SpellingMoves : List ℕ → (at : ℕ) → Spelling → Type 0
+SpellingMoves s at (Misspelt n) = Unit {0}
+SpellingMoves s at (Spelt k next) = (at < next) × (next ≤ length s) × KindFits k
+
+-- a class from its first item on
+pub record ReadsClass (fold : Bool) (used : ℕ) (turned : Bool) (s : List ℕ) (from : ℕ) (r : Spelled) : Type 0 where
+  pub is : r ≡ spelledBy fold used 0 (classOf fold turned (itemsFrom 0 from (drop from s)))
+  pub moves : SpellingMoves s from (r .answer)
+
+-- the class whose `[` stands at a place
+pub record ReadsBracket (fold : Bool) (used : ℕ) (s : List ℕ) (at : ℕ) (r : Spelled) : Type 0 where
+  pub is : r ≡ spelledBy fold used at (Model.classAt fold (drop (suc at) s))
+  pub moves : SpellingMoves s at (r .answer)
+
+-- ---- a gap
+
+abbrev pub digitOf : ℕ → ℕ
+digitOf c = cond (ltb c 48) 10 (cond (ltb 57 c) 10 (c - 48))
+
+pub record ReadsDigit (c r : ℕ) : Type 0 where
+  pub is : r ≡ digitOf c
+  pub small : r ≤ 10
+
+abbrev pub boundOf : ℕ → Model.Bound → Bound
+boundOf at b = record { value = b .value; next = at + b .bytes }
+
+pub record ReadsBound (s : List ℕ) (at : ℕ) (r : Bound) : Type 0 where
+  pub is : r ≡ boundOf at (boundAt (drop at s))
+  pub low : r .value ≤ 99
+  pub from : at ≤ r .next
+  pub near : r .next ≤ at + 2
+
+-- the gap whose `{` stands at a place: neither the fold nor the positions before it change what it is
+pub record ReadsGap (s : List ℕ) (at : ℕ) (r : Spelled) : Type 0 where
+  pub is : r ≡ spelledBy false 0 at (Model.gapAt (drop (suc at) s))
+  pub moves : SpellingMoves s at (r .answer)
+
+-- ---- any kind
+
+abbrev pub plainOf : (value next : ℕ) → Spelled
+plainOf c next = record { answer = Spelt (AByte c) next; set = none }
+
+pub record ReadsKind (fold : Bool) (used : ℕ) (s : List ℕ) (at : ℕ) (r : Spelled) : Type 0 where
+  pub is : r ≡ spelledBy fold used at (kindAt fold (drop at s))
+  pub moves : SpellingMoves s at (r .answer)
+
+-- ---- its mark
+
+abbrev pub oftenOf : Model.Often → Often
+oftenOf once = Once
+oftenOf optional = Optional
+oftenOf repeatable = Repeatable
+oftenOf both = Both
+
+unfoldable pub markAt : List ℕ → ℕ → Often
+markAt s at = oftenOf (oftenAt (drop at s))
+
+abbrev pub oftenBy : Kind → Often → Often
+oftenBy (AByte b) o = o
+oftenBy Any o = o
+oftenBy (Class n) o = o
+oftenBy (Gap a b) o = Once
+
+abbrev pub bytesOf : Often → ℕ
+bytesOf Once = 0
+bytesOf Optional = 1
+bytesOf Repeatable = 1
+bytesOf Both = 1
+
+abbrev pub sizeOf : Kind → ℕ
+sizeOf (AByte b) = 1
+sizeOf Any = 1
+sizeOf (Class n) = 1
+sizeOf (Gap a b) = b
+
+-- ---- an element
+
+abbrev pub noElement : (number : ℕ) → Read
+noElement n = record { answer = Refused n; set = none }
+
+-- an element of the model that was read, n bytes long without its mark
+abbrev pub elementOf : (fold : Bool) (used at : ℕ) → Model.Kind → ℕ → Model.Often → Read
+elementOf fold used at k n o = record { answer = Got (record { kind = kindOf used k; often = oftenOf o }) (at + n + markBytes o); set = setOf fold k }
+
+abbrev pub readBy : (fold : Bool) (used : ℕ) (s : List ℕ) (at : ℕ) → Model.ReadKind → Read
+readBy fold used s at (bad n) = noElement n
+readBy fold used s at (good k n) = cond (leb (used + Model.size k) positionLimit) (elementOf fold used at k n (oftenAfter k (drop (at + n) s))) (noElement 7)
+
+pub record ElementMoves (used : ℕ) (s : List ℕ) (at : ℕ) (e : Element) (next : ℕ) : Type 0 where
+  pub ahead : at + bytesOf (e .often) < next
+  pub inside : next ≤ length s
+  pub fits : KindFits (e .kind)
+  pub room : used + sizeOf (e .kind) ≤ positionLimit
+
+abbrev pub ReadingMoves : (used : ℕ) → List ℕ → (at : ℕ) → Reading → Type 0
+ReadingMoves used s at (Refused n) = Unit {0}
+ReadingMoves used s at (Got e next) = ElementMoves used s at e next
+
+pub record ReadsElement (fold : Bool) (used : ℕ) (s : List ℕ) (at : ℕ) (r : Read) : Type 0 where
+  pub is : r ≡ readBy fold used s at (kindAt fold (drop at s))
+  pub moves : ReadingMoves used s at (r .answer)

@@ -1,0 +1,52 @@
+-- `scan_value::tail_fits` meets its contract. Its laws are in this crate's `proofs/`; `search LAW` finds a law's premises in `c`. Assumes nothing.
+use native.Mathlib.Omega.{arith}
+use lib.ListN.{length-take}
+use Rattle.scan_value.proofs.Checks.{tail-none, tail-code, tail-plain, tail-open}
+use borrow.Author.Needs.{needs}
+use Rattle.scan_value.proofs.tail_fits.Statement.{statement}
+use Rattle.scan_value.proofs.tail_fits.Tie as tie
+
+returns : tie.Need-returns
+returns c = search tail-none
+
+array-share-prefix-t : tie.Need-array-share-prefix-t
+array-share-prefix-t c = search needs
+
+slice-aggregate-read-reference : tie.Need-slice-aggregate-read-reference
+slice-aggregate-read-reference c = simp length-take (omega arith)
+
+read-reference-requires : tie.Need-read-reference-requires
+read-reference-requires c κs = search needs
+
+enum-told : tie.Need-enum-told
+enum-told c = search needs
+
+returns-2 : tie.Need-returns-2
+returns-2 c = search tail-code
+
+enum-told-2 : tie.Need-enum-told-2
+enum-told-2 c = search needs
+
+returns-3 : tie.Need-returns-3
+returns-3 c = search tail-plain
+
+enum-told-3 : tie.Need-enum-told-3
+enum-told-3 c = search needs
+
+returns-4 : tie.Need-returns-4
+returns-4 c = search tail-open
+
+pub tail-fits-spec : {M : Type 1} → statement M
+tail-fits-spec =
+    tie.close
+    (tie.spec
+    returns
+    array-share-prefix-t
+    slice-aggregate-read-reference
+    read-reference-requires
+    enum-told
+    returns-2
+    enum-told-2
+    returns-3
+    enum-told-3
+    returns-4)

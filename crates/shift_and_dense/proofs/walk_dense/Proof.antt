@@ -1,0 +1,100 @@
+-- `shift_and_dense::walk_dense` meets its contract. Its laws are in this crate's `proofs/`; `search LAW` finds a law's premises in `c`. Assumes nothing.
+use Prim.Native.Nat.{_-_}
+use Rattle.shift_and_loop.proofs.Turns.{Strolling, set-out, stroll-over}
+use Rattle.shift_and_dense.proofs.Dense.{stroll-dense}
+use borrow.Author.Needs.{needs}
+use Rattle.shift_and_dense.proofs.walk_dense.Statement.{statement}
+use Rattle.shift_and_dense.proofs.walk_dense.Tie as tie
+
+abbrev Inv-loop : tie.InvT-loop
+Inv-loop table m q until text ends₀ s d₀ n₀ i₀ ends d n i = Strolling table m until text ends₀ s ends d n i
+
+abbrev μ-loop : tie.MeasureT-loop
+μ-loop table m q until text ends₀ s d₀ n₀ i₀ ends d n i = until - i
+
+loop-holds : tie.Need-loop-holds Inv-loop μ-loop
+loop-holds c = search set-out
+
+shared-slice-read-index : tie.Need-shared-slice-read-index Inv-loop μ-loop
+shared-slice-read-index c = search needs
+
+index-requires : tie.Need-index-requires Inv-loop μ-loop
+index-requires c κs = search needs
+
+mul-step-free : tie.Need-mul-step-free Inv-loop μ-loop
+mul-step-free c = search needs
+
+shared-slice-read-step-free : tie.Need-shared-slice-read-step-free Inv-loop μ-loop
+shared-slice-read-step-free c = search needs
+
+step-free-requires : tie.Need-step-free-requires Inv-loop μ-loop
+step-free-requires c κs = search needs
+
+add-i : tie.Need-add-i Inv-loop μ-loop
+add-i c = search needs
+
+report-bit-requires : tie.Need-report-bit-requires Inv-loop μ-loop
+report-bit-requires c κs = search needs
+
+place-requires : tie.Need-place-requires Inv-loop μ-loop
+place-requires c κs = search needs
+
+mul-pick : tie.Need-mul-pick Inv-loop μ-loop
+mul-pick c = search needs
+
+slice-read-pick : tie.Need-slice-read-pick Inv-loop μ-loop
+slice-read-pick c = search needs
+
+pick-requires : tie.Need-pick-requires Inv-loop μ-loop
+pick-requires c κs = search needs
+
+mul-ends : tie.Need-mul-ends Inv-loop μ-loop
+mul-ends c = search needs
+
+slice-write-ends : tie.Need-slice-write-ends Inv-loop μ-loop
+slice-write-ends c = search needs
+
+add-n : tie.Need-add-n Inv-loop μ-loop
+add-n c = search needs
+
+loop-less : tie.Need-loop-less Inv-loop μ-loop
+loop-less c = search needs
+
+loop-again : tie.Need-loop-again Inv-loop μ-loop
+loop-again c = search stroll-dense
+
+place-requires-2 : tie.Need-place-requires-2 Inv-loop μ-loop
+place-requires-2 c κs = search needs
+
+same-length : tie.Need-same-length Inv-loop μ-loop
+same-length c = search needs
+
+returns : tie.Need-returns Inv-loop μ-loop
+returns c = search stroll-over
+
+pub walk-dense-spec : {M : Type 1} → statement M
+walk-dense-spec =
+    tie.close
+    (tie.spec
+    Inv-loop
+    μ-loop
+    loop-holds
+    shared-slice-read-index
+    index-requires
+    mul-step-free
+    shared-slice-read-step-free
+    step-free-requires
+    add-i
+    report-bit-requires
+    place-requires
+    mul-pick
+    slice-read-pick
+    pick-requires
+    mul-ends
+    slice-write-ends
+    add-n
+    loop-less
+    loop-again
+    place-requires-2
+    same-length
+    returns)

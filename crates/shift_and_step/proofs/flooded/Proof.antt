@@ -1,0 +1,14 @@
+-- `shift_and_step::flooded` meets its contract. Its laws are in this crate's `proofs/`; `search LAW` finds a law's premises in `c`. Assumes nothing.
+use Rattle.shift_and_step.proofs.Steps.{flood-turned}
+use borrow.Author.Needs.{needs}
+use Rattle.shift_and_step.proofs.flooded.Statement.{statement}
+use Rattle.shift_and_step.proofs.flooded.Tie as tie
+
+wrapping-sub-u64-requires : tie.Need-wrapping-sub-u64-requires
+wrapping-sub-u64-requires c κs = search needs
+
+returns : tie.Need-returns
+returns c = search flood-turned
+
+pub flooded-spec : {M : Type 1} → statement M
+flooded-spec = tie.close (tie.spec wrapping-sub-u64-requires returns)

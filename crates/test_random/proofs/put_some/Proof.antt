@@ -1,0 +1,51 @@
+-- `test_random::put_some` is safe, and keeps what its contract promises. Assumes nothing.
+use mathlib.Core.Path.{_≡_}
+use lib.ListN.{length}
+use borrow.Author.Needs.{needs}
+use Rattle.test_random.proofs.put_some.Statement.{statement}
+use Rattle.test_random.proofs.put_some.Tie as tie
+
+abbrev Inv-loop : tie.InvT-loop
+Inv-loop random₀ out₀ from list most at₀ left₀ random out at left = (length out ≡ length out₀)
+
+abbrev μ-loop : tie.MeasureT-loop
+μ-loop random₀ out₀ from list most at₀ left₀ random out at left = left
+
+up-to-requires : tie.Need-up-to-requires Inv-loop μ-loop
+up-to-requires c κs = search needs
+
+loop-holds : tie.Need-loop-holds Inv-loop μ-loop
+loop-holds c = search needs
+
+put-one-requires : tie.Need-put-one-requires Inv-loop μ-loop
+put-one-requires c κs = search needs
+
+sub-left : tie.Need-sub-left Inv-loop μ-loop
+sub-left c = search needs
+
+loop-less : tie.Need-loop-less Inv-loop μ-loop
+loop-less c = search needs
+
+loop-again : tie.Need-loop-again Inv-loop μ-loop
+loop-again c = search needs
+
+same-length : tie.Need-same-length Inv-loop μ-loop
+same-length c = search needs
+
+returns : tie.Need-returns Inv-loop μ-loop
+returns c = search needs
+
+pub put-some-spec : {M : Type 1} → statement M
+put-some-spec =
+    tie.close
+    (tie.spec
+    Inv-loop
+    μ-loop
+    up-to-requires
+    loop-holds
+    put-one-requires
+    sub-left
+    loop-less
+    loop-again
+    same-length
+    returns)

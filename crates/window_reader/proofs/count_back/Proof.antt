@@ -1,0 +1,78 @@
+-- `window_reader::count_back` meets its contract. Its laws are in this crate's `proofs/`; `search LAW` finds a law's premises in `c`. Assumes nothing.
+use Rattle.window_reader.proofs.BackLaws.{Counting, count-begun, counted, count-passed, count-over}
+use borrow.Author.Needs.{needs}
+use Rattle.window_reader.proofs.count_back.Statement.{statement}
+use Rattle.window_reader.proofs.count_back.Tie as tie
+
+abbrev Inv-loop : tie.InvT-loop
+Inv-loop reversed m text from d₀ k₀ j₀ d k j = Counting reversed m text from d k j
+
+abbrev μ-loop : tie.MeasureT-loop
+μ-loop reversed m text from d₀ k₀ j₀ d k j = j
+
+opening-requires : tie.Need-opening-requires Inv-loop μ-loop
+opening-requires c κs = search needs
+
+loop-holds : tie.Need-loop-holds Inv-loop μ-loop
+loop-holds c = search count-begun
+
+sub-j : tie.Need-sub-j Inv-loop μ-loop
+sub-j c = search needs
+
+shared-slice-read-index : tie.Need-shared-slice-read-index Inv-loop μ-loop
+shared-slice-read-index c = search needs
+
+index-requires : tie.Need-index-requires Inv-loop μ-loop
+index-requires c κs = search needs
+
+mul-step : tie.Need-mul-step Inv-loop μ-loop
+mul-step c = search needs
+
+shared-slice-read-step : tie.Need-shared-slice-read-step Inv-loop μ-loop
+shared-slice-read-step c = search needs
+
+step-requires : tie.Need-step-requires Inv-loop μ-loop
+step-requires c κs = search needs
+
+reports-requires : tie.Need-reports-requires Inv-loop μ-loop
+reports-requires c κs = search needs
+
+add-k : tie.Need-add-k Inv-loop μ-loop
+add-k c = search needs
+
+loop-less : tie.Need-loop-less Inv-loop μ-loop
+loop-less c = search needs
+
+loop-again : tie.Need-loop-again Inv-loop μ-loop
+loop-again c = search counted
+
+loop-less-2 : tie.Need-loop-less-2 Inv-loop μ-loop
+loop-less-2 c = search needs
+
+loop-again-2 : tie.Need-loop-again-2 Inv-loop μ-loop
+loop-again-2 c = search count-passed
+
+returns : tie.Need-returns Inv-loop μ-loop
+returns c = search count-over
+
+pub count-back-spec : {M : Type 1} → statement M
+count-back-spec =
+    tie.close
+    (tie.spec
+    Inv-loop
+    μ-loop
+    opening-requires
+    loop-holds
+    sub-j
+    shared-slice-read-index
+    index-requires
+    mul-step
+    shared-slice-read-step
+    step-requires
+    reports-requires
+    add-k
+    loop-less
+    loop-again
+    loop-less-2
+    loop-again-2
+    returns)

@@ -1,0 +1,75 @@
+-- `window_reader::verify` meets its contract. Its laws are in this crate's `proofs/`; `search LAW` finds a law's premises in `c`. Assumes nothing.
+use Prim.Native.Nat.{_-_}
+use Rattle.window_reader.proofs.VerifyLaws.{Verifying, verify-begun, verify-died, verify-ended, verify-passed, verify-over}
+use borrow.Author.Needs.{needs}
+use Rattle.window_reader.proofs.verify.Statement.{statement}
+use Rattle.window_reader.proofs.verify.Tie as tie
+
+abbrev Inv-loop : tie.InvT-loop
+Inv-loop forward m text s stop d₀ e₀ d e = Verifying forward m text s stop d e
+
+abbrev μ-loop : tie.MeasureT-loop
+μ-loop forward m text s stop d₀ e₀ d e = stop - e
+
+opening-requires : tie.Need-opening-requires Inv-loop μ-loop
+opening-requires c κs = search needs
+
+loop-holds : tie.Need-loop-holds Inv-loop μ-loop
+loop-holds c = search verify-begun
+
+shared-slice-read-index : tie.Need-shared-slice-read-index Inv-loop μ-loop
+shared-slice-read-index c = search needs
+
+index-requires : tie.Need-index-requires Inv-loop μ-loop
+index-requires c κs = search needs
+
+mul-step : tie.Need-mul-step Inv-loop μ-loop
+mul-step c = search needs
+
+shared-slice-read-step : tie.Need-shared-slice-read-step Inv-loop μ-loop
+shared-slice-read-step c = search needs
+
+step-requires : tie.Need-step-requires Inv-loop μ-loop
+step-requires c κs = search needs
+
+add-e : tie.Need-add-e Inv-loop μ-loop
+add-e c = search needs
+
+returns : tie.Need-returns Inv-loop μ-loop
+returns c = search verify-died
+
+reports-requires : tie.Need-reports-requires Inv-loop μ-loop
+reports-requires c κs = search needs
+
+returns-2 : tie.Need-returns-2 Inv-loop μ-loop
+returns-2 c = search verify-ended
+
+loop-less : tie.Need-loop-less Inv-loop μ-loop
+loop-less c = search needs
+
+loop-again : tie.Need-loop-again Inv-loop μ-loop
+loop-again c = search verify-passed
+
+returns-3 : tie.Need-returns-3 Inv-loop μ-loop
+returns-3 c = search verify-over
+
+pub verify-spec : {M : Type 1} → statement M
+verify-spec =
+    tie.close
+    (tie.spec
+    Inv-loop
+    μ-loop
+    opening-requires
+    loop-holds
+    shared-slice-read-index
+    index-requires
+    mul-step
+    shared-slice-read-step
+    step-requires
+    add-e
+    returns
+    reports-requires
+    returns-2
+    loop-less
+    loop-again
+    returns-3)

@@ -1,0 +1,98 @@
+-- `window_reader::write_back` meets its contract. Its laws are in this crate's `proofs/`; `search LAW` finds a law's premises in `c`. Assumes nothing.
+use Rattle.window_reader.proofs.BackLaws.{Writing, write-begun, more-place, more-within, above, inside, more-less, wrote, write-passed, write-over}
+use borrow.Author.Needs.{needs}
+use Rattle.window_reader.proofs.write_back.Statement.{statement}
+use Rattle.window_reader.proofs.write_back.Tie as tie
+
+abbrev Inv-loop : tie.InvT-loop
+Inv-loop reversed m text from starts₀ first k d₀ p₀ j₀ starts d p j = Writing reversed m text from starts₀ first starts d p j
+
+abbrev μ-loop : tie.MeasureT-loop
+μ-loop reversed m text from starts₀ first k d₀ p₀ j₀ starts d p j = j
+
+opening-requires : tie.Need-opening-requires Inv-loop μ-loop
+opening-requires c κs = search needs
+
+add-p : tie.Need-add-p Inv-loop μ-loop
+add-p c = search needs
+
+loop-holds : tie.Need-loop-holds Inv-loop μ-loop
+loop-holds c = search write-begun
+
+sub-j : tie.Need-sub-j Inv-loop μ-loop
+sub-j c = search more-place
+
+shared-slice-read-index : tie.Need-shared-slice-read-index Inv-loop μ-loop
+shared-slice-read-index c = search more-within
+
+index-requires : tie.Need-index-requires Inv-loop μ-loop
+index-requires c κs = search needs
+
+mul-step : tie.Need-mul-step Inv-loop μ-loop
+mul-step c = search needs
+
+shared-slice-read-step : tie.Need-shared-slice-read-step Inv-loop μ-loop
+shared-slice-read-step c = search needs
+
+step-requires : tie.Need-step-requires Inv-loop μ-loop
+step-requires c κs = search needs
+
+reports-requires : tie.Need-reports-requires Inv-loop μ-loop
+reports-requires c κs = search needs
+
+sub-p : tie.Need-sub-p Inv-loop μ-loop
+sub-p c = search above
+
+cast-starts : tie.Need-cast-starts Inv-loop μ-loop
+cast-starts c = search needs
+
+mul-starts : tie.Need-mul-starts Inv-loop μ-loop
+mul-starts c = search needs
+
+slice-write-starts : tie.Need-slice-write-starts Inv-loop μ-loop
+slice-write-starts c = search inside
+
+loop-less : tie.Need-loop-less Inv-loop μ-loop
+loop-less c = search more-less
+
+loop-again : tie.Need-loop-again Inv-loop μ-loop
+loop-again c = search wrote
+
+loop-less-2 : tie.Need-loop-less-2 Inv-loop μ-loop
+loop-less-2 c = search more-less
+
+loop-again-2 : tie.Need-loop-again-2 Inv-loop μ-loop
+loop-again-2 c = search write-passed
+
+same-length : tie.Need-same-length Inv-loop μ-loop
+same-length c = search needs
+
+returns : tie.Need-returns Inv-loop μ-loop
+returns c = search write-over
+
+pub write-back-spec : {M : Type 1} → statement M
+write-back-spec =
+    tie.close
+    (tie.spec
+    Inv-loop
+    μ-loop
+    opening-requires
+    add-p
+    loop-holds
+    sub-j
+    shared-slice-read-index
+    index-requires
+    mul-step
+    shared-slice-read-step
+    step-requires
+    reports-requires
+    sub-p
+    cast-starts
+    mul-starts
+    slice-write-starts
+    loop-less
+    loop-again
+    loop-less-2
+    loop-again-2
+    same-length
+    returns)
