@@ -58,7 +58,7 @@ uninstall:
 	  $(INTO)/share/man/man1/jazhuppe.1
 
 bench: $(ARCHIVE) $(PROGRAM)
-	@if [ -x bench/run ]; then bench/run; else echo "there is no bench/run"; fi
+	bench/run
 
 clean:
 	rm -rf build target

@@ -5,7 +5,7 @@
 #include <stdlib.h>
 #include <string.h>
 
-static uint32_t ends[LONG_PIECE + 9];
+static uint32_t ends[JAZHUPPE_FEED_LIST(LONG_PIECE)];
 
 static void accepted(uint32_t number, const char *call)
 {

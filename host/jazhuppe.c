@@ -265,17 +265,17 @@ static int take_ends(const plan *p, jazhuppe_answer a, const uint32_t *ends)
 
 static int feed_piece(const plan *p, uint64_t *scan, const uint8_t *piece, size_t length)
 {
-    uint32_t ends[PIECE + JAZHUPPE_HELD_MOST];
-    size_t list = length + JAZHUPPE_HELD_MOST;
+    uint32_t ends[JAZHUPPE_FEED_LIST(PIECE)];
+    size_t list = JAZHUPPE_FEED_LIST(length);
 
     return take_ends(p, jazhuppe_feed(scan, JAZHUPPE_SCAN_WORDS, piece, length, ends, list), ends);
 }
 
 static int finish_plan(const plan *p, uint64_t *scan)
 {
-    uint32_t ends[JAZHUPPE_HELD_MOST];
+    uint32_t ends[JAZHUPPE_FINISH_LIST];
 
-    return take_ends(p, jazhuppe_finish(scan, JAZHUPPE_SCAN_WORDS, ends, JAZHUPPE_HELD_MOST), ends);
+    return take_ends(p, jazhuppe_finish(scan, JAZHUPPE_SCAN_WORDS, ends, JAZHUPPE_FINISH_LIST), ends);
 }
 
 static int scan_plan(const plan *p, const rule *r)

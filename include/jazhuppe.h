@@ -64,8 +64,11 @@ extern "C" {
 #define JAZHUPPE_POSITIONS_MOST 63       /* positions of a rule */
 #define JAZHUPPE_TEXT_MOST 4294967295u   /* bytes of a text, or of all the pieces of a plan */
 #define JAZHUPPE_SCAN_WORDS 273          /* the length of a scan value */
-#define JAZHUPPE_HELD_MOST 9             /* bytes that a scan holds back between pieces, so the entries that a feed's
-                                            list needs beyond the piece's length, and a finish's in all */
+#define JAZHUPPE_HELD_MOST 9             /* bytes that a scan holds back between pieces */
+
+/* The entries that the list of a feed with a piece of so many bytes needs, and that of a finish. */
+#define JAZHUPPE_FEED_LIST(piece_len) ((piece_len) + JAZHUPPE_HELD_MOST)
+#define JAZHUPPE_FINISH_LIST JAZHUPPE_HELD_MOST
 
 /* What a rule comes to. */
 typedef struct {
@@ -98,13 +101,13 @@ jazhuppe_prepared jazhuppe_open(const uint8_t *rule, size_t rule_len, uint32_t f
 
 /* Feeds the next piece of the raw plan, of any length and cut anywhere: writes the ends of the occurrences that it
  * completes, each once, rising, and moves the scan value on. A tail that could still grow into a reference is held
- * back for the next call. The list needs piece_len + JAZHUPPE_HELD_MOST entries.
+ * back for the next call. The list needs JAZHUPPE_FEED_LIST(piece_len) entries.
  * Refusals 11, 12, 10 (all the pieces together), 9. */
 jazhuppe_answer jazhuppe_feed(uint64_t *scan, size_t scan_len, const uint8_t *piece, size_t piece_len, uint32_t *ends,
                               size_t ends_len);
 
 /* Finishes the scan: what is held back is let through as it came, and the ends in it are written. The list needs
- * JAZHUPPE_HELD_MOST entries. A finished scan takes no more calls; the value may be opened again.
+ * JAZHUPPE_FINISH_LIST entries. A finished scan takes no more calls; the value may be opened again.
  * Refusals 11, 12, 9. */
 jazhuppe_answer jazhuppe_finish(uint64_t *scan, size_t scan_len, uint32_t *ends, size_t ends_len);
 

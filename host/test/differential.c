@@ -10,7 +10,7 @@
 #include "second.h"
 #include "testing.h"
 
-enum { WORDS = JAZHUPPE_SCAN_WORDS, NINE = JAZHUPPE_HELD_MOST, RULE_ROOM = 320, PLAN_MOST = 1536 };
+enum { WORDS = JAZHUPPE_SCAN_WORDS, REFUSALS = JAZHUPPE_FINISHED, RULE_ROOM = 320, PLAN_MOST = 1536 };
 
 typedef struct {
     uint8_t rule[RULE_ROOM];
@@ -27,7 +27,6 @@ static unsigned long long seed = 1;
 static unsigned cases = 20000, case_number;
 static random_source source;
 static test_case now;
-static lent rule_room, text_room, scan_room, list_room;
 
 /* Memory for a text over the limit, which nobody may touch. */
 static const size_t over = (size_t)JAZHUPPE_TEXT_MOST + 1;
@@ -47,7 +46,7 @@ static bool one_in(uint32_t n)
 
 enum { PREPARE, OPEN, FEED, FINISH, DECODE, SEARCH, SHOW, CALLS };
 static const char *const call_names[CALLS] = {"prepare", "open", "feed", "finish", "decode", "search", "show"};
-static unsigned long counts[CALLS][13], ends_seen, starts_seen, shown_seen, windows_seen, held_seen, decoded_seen;
+static unsigned long counts[CALLS][REFUSALS + 1], ends_seen, starts_seen, shown_seen, windows_seen, held_seen, decoded_seen;
 
 static char asked[16384];
 static size_t asked_len;
@@ -95,7 +94,7 @@ static void different(const char *what)
 
 static void hold_prepared(int call, jazhuppe_prepared given, jazhuppe_prepared expected)
 {
-    counts[call][expected.number % 13]++;
+    counts[call][expected.number % (REFUSALS + 1)]++;
     if (memcmp(&given, &expected, sizeof given) == 0)
         return;
     printf("given %lu at %lu, positions %lu, shortest %lu\n", (unsigned long)given.number, (unsigned long)given.place,
@@ -113,7 +112,7 @@ static void print_answer(const char *name, jazhuppe_answer a)
 
 static void hold_answer(int call, jazhuppe_answer given, jazhuppe_answer expected)
 {
-    counts[call][expected.number % 13]++;
+    counts[call][expected.number % (REFUSALS + 1)]++;
     if (memcmp(&given, &expected, sizeof given) == 0)
         return;
     print_answer("given", given);
@@ -482,7 +481,7 @@ static void try_odd_call(size_t length, size_t list)
 static bool try_scan_call(bool finish, const uint8_t *bytes, size_t length)
 {
     static uint32_t expected_ends[SECOND_PLAN_MOST];
-    size_t list = list_length((finish ? 0 : length) + NINE);
+    size_t list = list_length(finish ? JAZHUPPE_FINISH_LIST : JAZHUPPE_FEED_LIST(length));
     uint32_t *ends = lend(&list_room, list * sizeof *ends);
     const uint8_t *piece = lend_bytes(&text_room, bytes, length);
     jazhuppe_answer expected = finish ? second_finish(&plain, expected_ends, list)
@@ -520,13 +519,13 @@ static void try_scan(void)
         if (try_scan_call(false, now.plan + at, length))
             at += length;
         if (one_in(20))
-            try_odd_call(length, length + NINE);
+            try_odd_call(length, JAZHUPPE_FEED_LIST(length));
     }
     while (!try_scan_call(true, NULL, 0))
         continue;
     if (one_in(4)) {
         try_scan_call(one_in(2), NULL, 0);
-        try_odd_call(3, 12);
+        try_odd_call(3, JAZHUPPE_FEED_LIST(3));
     }
 }
 
@@ -618,7 +617,7 @@ static void print_counts(void)
 {
     for (int call = 0; call < CALLS; call++) {
         printf("ok %s: %lu finished", call_names[call], counts[call][0]);
-        for (int number = 1; number <= 12; number++)
+        for (int number = 1; number <= REFUSALS; number++)
             if (counts[call][number] > 0)
                 printf(", %lu refused by %d", counts[call][number], number);
         putchar('\n');
@@ -637,7 +636,7 @@ int main(int argc, char **argv)
     rule_room = lent_room(RULE_ROOM);
     text_room = lent_room(PLAN_MOST);
     scan_room = lent_room((WORDS + 1) * sizeof(uint64_t));
-    list_room = lent_room((PLAN_MOST + 2 * NINE) * sizeof(uint32_t));
+    list_room = lent_room((JAZHUPPE_FEED_LIST(PLAN_MOST) + JAZHUPPE_FINISH_LIST) * sizeof(uint32_t));
     too_much = untouchable_memory(over);
     printf("differential: seed %llu, %u cases\n", seed, cases);
     for (case_number = 0; case_number < cases; case_number++)

@@ -7,12 +7,11 @@
 #include "jazhuppe.h"
 #include "testing.h"
 
-enum { WORDS = JAZHUPPE_SCAN_WORDS, NINE = JAZHUPPE_HELD_MOST, RAW = 261, DECODED = 262 };
+enum { WORDS = JAZHUPPE_SCAN_WORDS, RAW = 261, DECODED = 262 };
 
 /* One byte over the limit, and as much as may be. */
 static const size_t over = (size_t)JAZHUPPE_TEXT_MOST + 1, most = JAZHUPPE_TEXT_MOST;
 
-static lent scan_room, list_room;
 
 static bool answers(jazhuppe_answer a, uint32_t number, uint32_t place)
 {
@@ -57,16 +56,16 @@ static void test_long_lists(void)
     munmap(list, bytes);
 }
 
-/* One piece over the limit; and the needed length, piece + 9, is not cut to 32 bits. */
+/* One piece over the limit; and the needed length, JAZHUPPE_FEED_LIST, is not cut to 32 bits. */
 static void test_piece(void)
 {
     uint64_t *scan = open_scan("a");
     const uint8_t *piece = untouchable_memory(over);
-    uint32_t *ends = lend(&list_room, NINE * sizeof *ends);
+    uint32_t *ends = lend(&list_room, JAZHUPPE_FINISH_LIST * sizeof *ends);
 
-    CHECK(answers(jazhuppe_feed(scan, WORDS, piece, over, ends, NINE), JAZHUPPE_TOO_MUCH, 0));
-    CHECK(answers(jazhuppe_feed(scan, WORDS, piece, most, ends, NINE - 1), JAZHUPPE_TOO_SHORT, 0));
-    CHECK(answers(jazhuppe_feed(scan, WORDS, piece, most, ends, NINE), JAZHUPPE_TOO_SHORT, 0));
+    CHECK(answers(jazhuppe_feed(scan, WORDS, piece, over, ends, JAZHUPPE_FINISH_LIST), JAZHUPPE_TOO_MUCH, 0));
+    CHECK(answers(jazhuppe_feed(scan, WORDS, piece, most, ends, JAZHUPPE_FINISH_LIST - 1), JAZHUPPE_TOO_SHORT, 0));
+    CHECK(answers(jazhuppe_feed(scan, WORDS, piece, most, ends, JAZHUPPE_FINISH_LIST), JAZHUPPE_TOO_SHORT, 0));
     CHECK(untouched(&scan_room) && untouched(&list_room));
     munmap((void *)piece, over);
 }
@@ -76,40 +75,40 @@ static void test_last_bytes(void)
 {
     uint64_t *scan = open_scan("a");
     const uint8_t *piece = (const uint8_t *)"aaaaaa";
-    uint32_t *ends = lend(&list_room, (6 + NINE) * sizeof *ends);
+    uint32_t *ends = lend(&list_room, JAZHUPPE_FEED_LIST(6) * sizeof *ends);
     jazhuppe_answer a;
 
     scan[RAW] = scan[DECODED] = most - 5;
     lent_anew(&scan_room);
-    CHECK(answers(jazhuppe_feed(scan, WORDS, piece, 6, ends, 6 + NINE), JAZHUPPE_TOO_MUCH, 0));
+    CHECK(answers(jazhuppe_feed(scan, WORDS, piece, 6, ends, JAZHUPPE_FEED_LIST(6)), JAZHUPPE_TOO_MUCH, 0));
     CHECK(untouched(&scan_room) && untouched(&list_room));
-    a = jazhuppe_feed(scan, WORDS, piece, 5, ends, 5 + NINE);
+    a = jazhuppe_feed(scan, WORDS, piece, 5, ends, JAZHUPPE_FEED_LIST(5));
     CHECK(a.number == 0 && a.count == 5 && ends[0] == most - 4 && ends[4] == most && scan[RAW] == most);
     lent_anew(&scan_room);
-    CHECK(answers(jazhuppe_feed(scan, WORDS, piece, 1, ends, 1 + NINE), JAZHUPPE_TOO_MUCH, 0));
+    CHECK(answers(jazhuppe_feed(scan, WORDS, piece, 1, ends, JAZHUPPE_FEED_LIST(1)), JAZHUPPE_TOO_MUCH, 0));
     CHECK(untouched(&scan_room));
-    CHECK(answers(jazhuppe_feed(scan, WORDS, piece, 0, ends, NINE), 0, 0));
-    CHECK(answers(jazhuppe_finish(scan, WORDS, ends, NINE), 0, 0));
+    CHECK(answers(jazhuppe_feed(scan, WORDS, piece, 0, ends, JAZHUPPE_FEED_LIST(0)), 0, 0));
+    CHECK(answers(jazhuppe_finish(scan, WORDS, ends, JAZHUPPE_FINISH_LIST), 0, 0));
 }
 
 /* Held bytes count as taken, and the finish may let them through up to the limit. */
 static void test_last_held(void)
 {
     uint64_t *scan = open_scan(".");
-    uint32_t *ends = lend(&list_room, (3 + NINE) * sizeof *ends);
+    uint32_t *ends = lend(&list_room, JAZHUPPE_FEED_LIST(3) * sizeof *ends);
     jazhuppe_answer a;
 
     scan[RAW] = scan[DECODED] = most - 3;
-    CHECK(answers(jazhuppe_feed(scan, WORDS, (const uint8_t *)"&am", 3, ends, 3 + NINE), 0, 0));
-    CHECK(answers(jazhuppe_feed(scan, WORDS, (const uint8_t *)"p", 1, ends, 1 + NINE), JAZHUPPE_TOO_MUCH, 0));
-    a = jazhuppe_finish(scan, WORDS, ends, NINE);
+    CHECK(answers(jazhuppe_feed(scan, WORDS, (const uint8_t *)"&am", 3, ends, JAZHUPPE_FEED_LIST(3)), 0, 0));
+    CHECK(answers(jazhuppe_feed(scan, WORDS, (const uint8_t *)"p", 1, ends, JAZHUPPE_FEED_LIST(1)), JAZHUPPE_TOO_MUCH, 0));
+    a = jazhuppe_finish(scan, WORDS, ends, JAZHUPPE_FINISH_LIST);
     CHECK(a.number == 0 && a.count == 3 && ends[0] == most - 2 && ends[2] == most);
 }
 
 /* As much as may be, searched and scanned: a seat at the very end is found. */
 static void test_longest(void)
 {
-    size_t list = most + NINE;
+    size_t list = JAZHUPPE_FEED_LIST(most);
     uint8_t *text = lazy_memory(most);
     uint32_t *places = lazy_memory(list * sizeof *places);
     uint64_t *scan = open_scan("A[0-9]+");

@@ -33,7 +33,6 @@ static const marked table[] = {
 };
 enum { MARKED = sizeof table / sizeof table[0] };
 
-static lent rule_room, text_room, scan_room, list_room;
 
 static bool same(const places *marked_places, const places *given)
 {
@@ -69,18 +68,18 @@ static void add(places *all, jazhuppe_answer a, const uint32_t *list)
 
 static void feed(uint64_t *scan, const char *piece, size_t length, places *ends)
 {
-    uint32_t *list = lend(&list_room, (length + JAZHUPPE_HELD_MOST) * sizeof *list);
+    uint32_t *list = lend(&list_room, JAZHUPPE_FEED_LIST(length) * sizeof *list);
     const uint8_t *bytes = lend_bytes(&text_room, piece, length);
 
-    add(ends, jazhuppe_feed(scan, JAZHUPPE_SCAN_WORDS, bytes, length, list, length + JAZHUPPE_HELD_MOST), list);
+    add(ends, jazhuppe_feed(scan, JAZHUPPE_SCAN_WORDS, bytes, length, list, JAZHUPPE_FEED_LIST(length)), list);
     CHECK(untouched(&text_room));
 }
 
 static void finish(uint64_t *scan, places *ends)
 {
-    uint32_t *list = lend(&list_room, JAZHUPPE_HELD_MOST * sizeof *list);
+    uint32_t *list = lend(&list_room, JAZHUPPE_FINISH_LIST * sizeof *list);
 
-    add(ends, jazhuppe_finish(scan, JAZHUPPE_SCAN_WORDS, list, JAZHUPPE_HELD_MOST), list);
+    add(ends, jazhuppe_finish(scan, JAZHUPPE_SCAN_WORDS, list, JAZHUPPE_FINISH_LIST), list);
 }
 
 /* The ends of a plan that is fed in pieces of `step` bytes after a first one of `first`. */
@@ -251,11 +250,11 @@ static void test_held_most(void)
 
     feed(scan, tail, strlen(tail), &none);
     CHECK(strlen(tail) == JAZHUPPE_HELD_MOST && none.count == 0 && scan[263] == JAZHUPPE_HELD_MOST);
-    list = lend(&list_room, JAZHUPPE_HELD_MOST * sizeof *list);
-    a = jazhuppe_feed(scan, JAZHUPPE_SCAN_WORDS, lend_bytes(&text_room, "8", 1), 1, list, JAZHUPPE_HELD_MOST);
+    list = lend(&list_room, (JAZHUPPE_FEED_LIST(1) - 1) * sizeof *list);
+    a = jazhuppe_feed(scan, JAZHUPPE_SCAN_WORDS, lend_bytes(&text_room, "8", 1), 1, list, JAZHUPPE_FEED_LIST(1) - 1);
     CHECK(a.number == JAZHUPPE_TOO_SHORT && untouched(&list_room));
-    list = lend(&list_room, (1 + JAZHUPPE_HELD_MOST) * sizeof *list);
-    a = jazhuppe_feed(scan, JAZHUPPE_SCAN_WORDS, lend_bytes(&text_room, "8", 1), 1, list, 1 + JAZHUPPE_HELD_MOST);
+    list = lend(&list_room, JAZHUPPE_FEED_LIST(1) * sizeof *list);
+    a = jazhuppe_feed(scan, JAZHUPPE_SCAN_WORDS, lend_bytes(&text_room, "8", 1), 1, list, JAZHUPPE_FEED_LIST(1));
     CHECK(a.number == 0 && a.count == 1 + JAZHUPPE_HELD_MOST);
     for (uint32_t i = 0; i < a.count; i++)
         CHECK(list[i] == i + 1);
@@ -265,11 +264,11 @@ static void test_held_most(void)
 static void test_finish_list(void)
 {
     uint64_t *scan = open_scan("a");
-    uint32_t *list = lend(&list_room, (JAZHUPPE_HELD_MOST - 1) * sizeof *list);
+    uint32_t *list = lend(&list_room, (JAZHUPPE_FINISH_LIST - 1) * sizeof *list);
 
-    CHECK(jazhuppe_finish(scan, JAZHUPPE_SCAN_WORDS, list, JAZHUPPE_HELD_MOST - 1).number == JAZHUPPE_TOO_SHORT);
-    list = lend(&list_room, JAZHUPPE_HELD_MOST * sizeof *list);
-    CHECK(jazhuppe_finish(scan, JAZHUPPE_SCAN_WORDS, list, JAZHUPPE_HELD_MOST).number == 0);
+    CHECK(jazhuppe_finish(scan, JAZHUPPE_SCAN_WORDS, list, JAZHUPPE_FINISH_LIST - 1).number == JAZHUPPE_TOO_SHORT);
+    list = lend(&list_room, JAZHUPPE_FINISH_LIST * sizeof *list);
+    CHECK(jazhuppe_finish(scan, JAZHUPPE_SCAN_WORDS, list, JAZHUPPE_FINISH_LIST).number == 0);
 }
 
 /* A search's list and a decoder's buffer. */
@@ -329,8 +328,8 @@ static void run_all(void)
     run("M12: the empty string is admitted", test_M12);
     run("an empty piece reports no end", test_empty_piece);
     run("JAZHUPPE_SCAN_WORDS", test_scan_words);
-    run("JAZHUPPE_HELD_MOST, a feed's list", test_held_most);
-    run("JAZHUPPE_HELD_MOST, a finish's list", test_finish_list);
+    run("JAZHUPPE_FEED_LIST", test_held_most);
+    run("JAZHUPPE_FINISH_LIST", test_finish_list);
     run("a search's list and a decoder's buffer", test_whole_lists);
     run("JAZHUPPE_RULE_MOST", test_rule_most);
     run("JAZHUPPE_POSITIONS_MOST", test_positions_most);
@@ -338,10 +337,5 @@ static void run_all(void)
 
 int main(void)
 {
-    rule_room = lent_room(1024);
-    text_room = lent_room(1024);
-    scan_room = lent_room(4096);
-    list_room = lent_room(1024);
-    run_both_ways(run_all);
-    return finished("marked");
+    return run_in_small_rooms("marked", run_all);
 }

@@ -4,7 +4,6 @@
 #include "jazhuppe.h"
 #include "testing.h"
 
-static lent rule_room, text_room, scan_room, list_room;
 
 typedef struct {
     const char *rule;
@@ -170,8 +169,8 @@ static void test_short_scan(void)
     jazhuppe_answer a;
 
     for (size_t piece = 0; piece < 20; piece++)
-        for (size_t list = 0; list < piece + JAZHUPPE_HELD_MOST; list++)
-            both_refuse(JAZHUPPE_SCAN_WORDS, piece, list, list % JAZHUPPE_HELD_MOST, JAZHUPPE_TOO_SHORT);
+        for (size_t list = 0; list < JAZHUPPE_FEED_LIST(piece); list++)
+            both_refuse(JAZHUPPE_SCAN_WORDS, piece, list, list % JAZHUPPE_FINISH_LIST, JAZHUPPE_TOO_SHORT);
     ends = lend(&list_room, 10 * sizeof *ends);
     a = jazhuppe_feed(scan, JAZHUPPE_SCAN_WORDS, lend_bytes(&text_room, "a", 1), 1, ends, 10);
     CHECK(a.number == 0 && a.count == 1 && ends[0] == 1 && untouched_past(&list_room, sizeof *ends));
@@ -181,15 +180,15 @@ static void test_short_scan(void)
 static void test_finished(void)
 {
     uint64_t *scan = open_scan("a");
-    uint32_t *ends = lend(&list_room, JAZHUPPE_HELD_MOST * sizeof *ends);
+    uint32_t *ends = lend(&list_room, JAZHUPPE_FINISH_LIST * sizeof *ends);
 
-    CHECK(jazhuppe_finish(scan, JAZHUPPE_SCAN_WORDS, ends, JAZHUPPE_HELD_MOST).number == 0);
+    CHECK(jazhuppe_finish(scan, JAZHUPPE_SCAN_WORDS, ends, JAZHUPPE_FINISH_LIST).number == 0);
     lent_anew(&scan_room);
-    both_refuse(JAZHUPPE_SCAN_WORDS, 3, 12, 9, JAZHUPPE_FINISHED);
-    both_refuse(JAZHUPPE_SCAN_WORDS, 0, 9, 9, JAZHUPPE_FINISHED);
+    both_refuse(JAZHUPPE_SCAN_WORDS, 3, JAZHUPPE_FEED_LIST(3), JAZHUPPE_FINISH_LIST, JAZHUPPE_FINISHED);
+    both_refuse(JAZHUPPE_SCAN_WORDS, 0, JAZHUPPE_FEED_LIST(0), JAZHUPPE_FINISH_LIST, JAZHUPPE_FINISHED);
     both_refuse(JAZHUPPE_SCAN_WORDS, 3, 0, 0, JAZHUPPE_FINISHED);
     CHECK(jazhuppe_open(rule_room.slice, 1, 0, scan, JAZHUPPE_SCAN_WORDS).number == 0);
-    CHECK(jazhuppe_finish(scan, JAZHUPPE_SCAN_WORDS, ends, JAZHUPPE_HELD_MOST).number == 0);
+    CHECK(jazhuppe_finish(scan, JAZHUPPE_SCAN_WORDS, ends, JAZHUPPE_FINISH_LIST).number == 0);
 }
 
 /* 11, 12, 10, 9: each goes before the later ones. */
@@ -218,7 +217,7 @@ static void test_order_of_scan_calls(void)
 static void test_null(void)
 {
     uint64_t *scan = open_scan("a");
-    uint32_t *ends = lend(&list_room, JAZHUPPE_HELD_MOST * sizeof *ends);
+    uint32_t *ends = lend(&list_room, JAZHUPPE_FINISH_LIST * sizeof *ends);
     const uint8_t *rule = rule_room.slice, *text = lend_bytes(&text_room, "a", 1);
     jazhuppe_span shown = jazhuppe_show(rule, 1, 0, NULL, 0, 0);
 
@@ -229,7 +228,7 @@ static void test_null(void)
     CHECK(same_answer(jazhuppe_finish(NULL, 0, NULL, 0), refusal(JAZHUPPE_IMPOSSIBLE, 0)));
     CHECK(same_answer(jazhuppe_feed(scan, JAZHUPPE_SCAN_WORDS, NULL, 0, NULL, 0), refusal(JAZHUPPE_TOO_SHORT, 0)));
     CHECK(same_answer(jazhuppe_feed(scan, JAZHUPPE_SCAN_WORDS, text, 1, NULL, 0), refusal(JAZHUPPE_TOO_SHORT, 0)));
-    CHECK(same_answer(jazhuppe_feed(scan, JAZHUPPE_SCAN_WORDS, NULL, 0, ends, 9), refusal(0, 0)));
+    CHECK(same_answer(jazhuppe_feed(scan, JAZHUPPE_SCAN_WORDS, NULL, 0, ends, JAZHUPPE_FEED_LIST(0)), refusal(0, 0)));
     CHECK(same_answer(jazhuppe_finish(scan, JAZHUPPE_SCAN_WORDS, NULL, 0), refusal(JAZHUPPE_TOO_SHORT, 0)));
     CHECK(same_answer(jazhuppe_decode(NULL, 0, NULL, 0), refusal(0, 0)));
     CHECK(same_answer(jazhuppe_decode(text, 1, NULL, 0), refusal(JAZHUPPE_TOO_SHORT, 0)));
@@ -271,10 +270,5 @@ static void run_all(void)
 
 int main(void)
 {
-    rule_room = lent_room(1024);
-    text_room = lent_room(1024);
-    scan_room = lent_room(4096);
-    list_room = lent_room(1024);
-    run_both_ways(run_all);
-    return finished("refusals");
+    return run_in_small_rooms("refusals", run_all);
 }

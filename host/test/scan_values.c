@@ -10,9 +10,8 @@
 
 /* The fields. */
 enum { REPEATS = 256, OPTIONAL, POSITIONS, STATE, FINISHED, RAW, DECODED, HELD, HELD_BYTES };
-enum { WORDS = JAZHUPPE_SCAN_WORDS, NINE = JAZHUPPE_HELD_MOST };
+enum { WORDS = JAZHUPPE_SCAN_WORDS, HELD_MOST = JAZHUPPE_HELD_MOST };
 
-static lent scan_room, text_room, list_room;
 
 static bool answers(jazhuppe_answer a, uint32_t number, uint32_t count)
 {
@@ -24,10 +23,10 @@ static void both_refuse(const uint64_t *value, size_t words, uint32_t number)
 {
     uint64_t *scan = lend_bytes(&scan_room, value, words * sizeof *scan);
     const uint8_t *piece = lend_bytes(&text_room, "a", 1);
-    uint32_t *ends = lend(&list_room, (1 + NINE) * sizeof *ends);
+    uint32_t *ends = lend(&list_room, JAZHUPPE_FEED_LIST(1) * sizeof *ends);
 
-    CHECK(answers(jazhuppe_feed(scan, words, piece, 1, ends, 1 + NINE), number, 0));
-    CHECK(answers(jazhuppe_finish(scan, words, ends, 1 + NINE), number, 0));
+    CHECK(answers(jazhuppe_feed(scan, words, piece, 1, ends, JAZHUPPE_FEED_LIST(1)), number, 0));
+    CHECK(answers(jazhuppe_finish(scan, words, ends, JAZHUPPE_FEED_LIST(1)), number, 0));
     CHECK(untouched(&scan_room) && untouched(&text_room) && untouched(&list_room));
 }
 
@@ -36,7 +35,7 @@ static void finishes(const uint64_t *value)
 {
     uint64_t *scan = lend_bytes(&scan_room, value, WORDS * sizeof *scan);
 
-    CHECK(jazhuppe_finish(scan, WORDS, lend(&list_room, NINE * sizeof(uint32_t)), NINE).number == 0);
+    CHECK(jazhuppe_finish(scan, WORDS, lend(&list_room, JAZHUPPE_FINISH_LIST * sizeof(uint32_t)), JAZHUPPE_FINISH_LIST).number == 0);
 }
 
 /* An opened scan that has taken 100 bytes and holds none back. */
@@ -52,7 +51,7 @@ static void hold(uint64_t *value, const char *tail)
 {
     value[HELD] = strlen(tail);
     value[DECODED] = value[RAW] - value[HELD];
-    for (size_t i = 0; i < value[HELD] && i < NINE; i++)
+    for (size_t i = 0; i < value[HELD] && i < HELD_MOST; i++)
         value[HELD_BYTES + i] = (uint8_t)tail[i];
 }
 
@@ -85,7 +84,7 @@ static void test_fields(void)
         field_refused(DECODED, over[i] | 100);
         field_refused(HELD, over[i]);
     }
-    for (size_t j = 0; j < NINE; j++) {
+    for (size_t j = 0; j < HELD_MOST; j++) {
         field_refused(HELD_BYTES + j, 256);
         field_refused(HELD_BYTES + j, UINT64_MAX);
     }
@@ -200,7 +199,7 @@ static size_t stepped(uint64_t *value, const uint8_t *piece, size_t length, bool
     value[RAW] += length;
     value[DECODED] += decoded;
     value[HELD] = held;
-    for (size_t i = 0; i < NINE; i++)
+    for (size_t i = 0; i < HELD_MOST; i++)
         value[HELD_BYTES + i] = i < held ? raw[taken - held + i] : 0;
     return count;
 }
@@ -235,7 +234,7 @@ static void random_value(random_source *r, uint64_t *value)
     hold(value, tails[random_below(r, 8)]);
     value[DECODED] -= random_below(r, (uint32_t)value[DECODED]);
     /* Past the held bytes any byte may stand. */
-    for (size_t i = value[HELD]; i < NINE; i++)
+    for (size_t i = value[HELD]; i < HELD_MOST; i++)
         value[HELD_BYTES + i] = random_below(r, 256);
 }
 
@@ -268,7 +267,7 @@ static void by_hand(random_source *r)
     for (int call = 0; call < 4; call++) {
         bool finish = call == 3;
         uint8_t piece[80];
-        size_t length = finish ? 0 : random_piece(r, piece), list = length + NINE;
+        size_t length = finish ? 0 : random_piece(r, piece), list = JAZHUPPE_FEED_LIST(length);
         size_t count = stepped(expected, piece, length, finish, ends);
         uint32_t *given = lend(&list_room, list * sizeof *given);
         const uint8_t *bytes = lend_bytes(&text_room, piece, length);

@@ -520,7 +520,7 @@ static uint32_t scan_refusal(const second_scan *scan, size_t piece_len, size_t e
         return JAZHUPPE_FINISHED;
     if (scan->length + piece_len > JAZHUPPE_TEXT_MOST)
         return JAZHUPPE_TOO_MUCH;
-    return ends_len < piece_len + JAZHUPPE_HELD_MOST ? JAZHUPPE_TOO_SHORT : 0;
+    return ends_len < JAZHUPPE_FEED_LIST(piece_len) ? JAZHUPPE_TOO_SHORT : 0;
 }
 
 static jazhuppe_answer scan_call(second_scan *scan, const uint8_t *piece, size_t piece_len, bool finish, uint32_t *ends,

@@ -104,6 +104,18 @@ lent lent_room(size_t most)
     return room;
 }
 
+lent rule_room, text_room, scan_room, list_room;
+
+int run_in_small_rooms(const char *program, void (*tests)(void))
+{
+    rule_room = lent_room(1024);
+    text_room = lent_room(1024);
+    scan_room = lent_room(4096);
+    list_room = lent_room(1024);
+    run_both_ways(tests);
+    return finished(program);
+}
+
 /* Where what is looked at begins, and ends. */
 static uint8_t *looked_from(const lent *room)
 {

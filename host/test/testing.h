@@ -36,8 +36,14 @@ extern bool lent_in_front;
 
 lent lent_room(size_t most);
 
+/* A room for each slice that a call may be lent. */
+extern lent rule_room, text_room, scan_room, list_room;
+
 /* Runs the tests on slices that end directly before such a page, and again on slices that begin directly after one. */
 void run_both_ways(void (*tests)(void));
+
+/* The same in rooms for short rules, texts and lists; the program's exit status. */
+int run_in_small_rooms(const char *program, void (*tests)(void));
 
 /* Lends so many bytes of it, filled with a pattern. */
 void *lend(lent *room, size_t bytes);

@@ -1,5 +1,5 @@
 -- Laws on plain values; each function's own file only cites them.
 pub mod Parts
 pub mod Shows
-pub mod Heard
-pub mod NothingParts
+pub mod MadeCalls
+pub mod Agreement

@@ -2,3 +2,4 @@
 pub mod Preparing
 pub mod Searching
 pub mod Showing
+pub mod Agreement

@@ -10,9 +10,9 @@ pub mod exports;
 
 use reference_decoder::Answer;
 use rule_compiler::Prepared;
+use shift_and_step::Masks;
 use window_search::Rule;
 use window_search::Span;
-use shift_and_step::Masks;
 
 // The number of the refusal of a call on a whole text with a list of so many entries, or 0.
 fn whole(text: usize, list: usize) -> u32

@@ -10,7 +10,7 @@ use native.Mathlib.Decide.{decLe}
 use lib.Dec.{T, leb, leb→le, le→leb}
 use lib.ListN.{length, take, drop, length-append, take-append-drop}
 use lib.Seq.{take-at, drop-at, take-length, drop-length}
-use Rattle.model.specs.Occurrence.{Position, all, Share, one, empty, longer, Occurs, done, next, stretch, EndsAt, StartsAt, anyFrom, consIf, allFrom, isShare, isEmpty, isOccurrence, isEnd, isStart, ends, starts}
+use Rattle.model.specs.Occurrence.{Position, all, Share, one, empty, longer, Occurs, done, next, stretch, EndsAt, StartsAt, anyFrom, consIf, allFrom, isShare, isEmpty, isOccurrence, isEnd, isStart, ends, starts, RisingFrom}
 use Rattle.model.specs.PlainScan.{newEnds}
 use Rattle.model.specs.WindowSearch.{Begins, Inhabited, isBeginning}
 use Rattle.model.proofs.Truth.{and-intro, and-left, and-right, or-cases, or-left, or-right}
@@ -68,11 +68,6 @@ all-out f (suc n) i k a b t =
       | yes h ↦ (let same : k ≡ i = omega arith in cons-is (f i) i k (allFrom f (suc i) n) (subst (λ (x : ℕ). T (f x)) same t) same)
       | no h ↦ cons-has (f i) i k (allFrom f (suc i) n) (all-out f n (suc i) k (omega arith) (omega arith) t)
     ]
-
--- "once each, rising"
-abbrev pub RisingFrom : ℕ → List ℕ → Type 0
-RisingFrom i [] = Unit {0}
-RisingFrom i (k ∷ ks) = (i ≤ k) × RisingFrom (suc k) ks
 
 rising-from-lower : (i j : ℕ) (l : List ℕ) → i ≤ j → RisingFrom j l → RisingFrom i l
 rising-from-lower i j [] h r = tt

@@ -13,7 +13,7 @@ use lib.Dec.{T, leb}
 use lib.ListN.{length, take, drop, length-append, take-append-drop}
 use lib.Seq.{take-take, drop-drop, take-nil, length-slice}
 use Rattle.model.specs.Occurrence.{Position, Share, one, empty, longer, Occurs, done, next, stretch, StartsAt, shortest, oneIf}
-use Rattle.model.specs.WindowSearch.{windowAt, Begins, Inhabited, isBeginning, leastFrom, shift, windowsFrom, windows}
+use Rattle.model.specs.WindowSearch.{windowAt, Begins, Inhabited, isBeginning, leastFrom, shift, ShiftIs, windowsFrom, windows, WindowsAre}
 use Rattle.model.proofs.Shares.{occurs-to}
 use Rattle.model.proofs.Decided.{beginning-decided}
 
@@ -134,14 +134,7 @@ least-is f (suc n) i e = go (f i) refl (least-is f n (suc i) e)
 -- ---- the shift
 
 module _ (ps : List Position) (inhabited : Inhabited ps) (some : 1 ≤ shortest ps) where
-  -- "the least j from 1 to m − 1 such that the window's bytes from j on begin some string the rule admits, or m if there is none"
-  pub record Shift (window : List ℕ) (j : ℕ) : Type 0 where
-    pub least : 1 ≤ j
-    pub most : j ≤ shortest ps
-    pub begins : (j < shortest ps) → Begins ps (drop j window)
-    pub none-before : (i : ℕ) → 1 ≤ i → i < j → Begins ps (drop i window) → ⊥
-
-  pub shift-is : (window : List ℕ) → Shift window (shift ps window)
+  pub shift-is : (window : List ℕ) → ShiftIs ps window (shift ps window)
   shift-is window = go (least-is at (shortest ps - 1) 1 (shortest ps))
     where
       at : ℕ → Bool
@@ -150,7 +143,7 @@ module _ (ps : List Position) (inhabited : Inhabited ps) (some : 1 ≤ shortest 
       before : (i : ℕ) → 1 ≤ i → i < shift ps window → shift ps window ≤ shortest ps → Begins ps (drop i window) → ⊥
       before i a b m s = least-before at (shortest ps - 1) 1 (shortest ps) i a (omega arith) b (beginning-decided ps (drop i window) inhabited .1 s)
 
-      go : ((1 ≤ shift ps window) × (shift ps window < 1 + (shortest ps - 1)) × T (at (shift ps window))) ⊎ (shift ps window ≡ shortest ps) → Shift window (shift ps window)
+      go : ((1 ≤ shift ps window) × (shift ps window < 1 + (shortest ps - 1)) × T (at (shift ps window))) ⊎ (shift ps window ≡ shortest ps) → ShiftIs ps window (shift ps window)
       go (inl r) =
           let a = r .0 in
           let b = r .1 in
@@ -216,6 +209,26 @@ module _ (ps : List Position) (inhabited : Inhabited ps) (some : 1 ≤ shortest 
   pub windows-stop : (text : List ℕ) (w : ℕ) → length text < w + shortest ps → windowsFrom (suc (length text)) ps text w ≡ []
   windows-stop text w l =
       windows-false text (length text) w (lt-leb (w + shortest ps) (length text) (omega arith))
+
+  -- The windows are those of the sentence.
+  windows-are-from : (text : List ℕ) (n w : ℕ) → length text < w + n → WindowsAre ps text w (windowsFrom n ps text w)
+  windows-are-from text zero w l = omega arith
+  windows-are-from text (suc n) w l = go (decLe (w + shortest ps) (length text)) (windows-are-from text n (w + shift ps (windowAt ps text w)))
+    where
+      j : ℕ
+      j = shift ps (windowAt ps text w)
+
+      go : Dec (w + shortest ps ≤ length text) → (length text < w + j + n → WindowsAre ps text (w + j) (windowsFrom n ps text (w + j))) → WindowsAre ps text w (windowsFrom (suc n) ps text w)
+      go (yes h) ih =
+          let r = shift-is (windowAt ps text w) .least in
+          let i : length text < w + j + n = omega arith in
+          rw (windows-true text n w (le-leb (w + shortest ps) (length text) h)) (refl, h, ih i)
+      go (no h) ih =
+          let l : length text < w + shortest ps = omega arith in
+          rw (windows-false text n w (lt-leb (w + shortest ps) (length text) l)) l
+
+  pub windows-are : (text : List ℕ) → WindowsAre ps text 0 (windows ps text)
+  windows-are text = windows-are-from text (suc (length text)) 0 (omega arith)
 
   windows-have : (text : List ℕ) → (n w s : ℕ) → length text < w + n → w ≤ s → StartsAt ps text s → List·Memᴰ s (windowsFrom n ps text w)
   windows-have text zero w s b a o = let f = start-fits text s o in absurd (omega arith)

@@ -97,3 +97,8 @@ ends ps text = allFrom (isEnd ps text) 0 (suc (length text))
 
 abbrev pub starts : List Position → List ℕ → List ℕ
 starts ps text = allFrom (isStart ps text) 0 (suc (length text))
+
+-- "once each, rising", from i on
+abbrev pub RisingFrom : ℕ → List ℕ → Type 0
+RisingFrom i [] = Unit {0}
+RisingFrom i (k ∷ ks) = (i ≤ k) × RisingFrom (suc k) ks

@@ -1,7 +1,8 @@
 -- Document 01, "Window search": windows, the published shift, the sequence of windows, and the part that is shown. Assumes nothing.
+use mathlib.Core.Path.{_≡_}
 use mathlib.Core.Bool.{Bool, true, false, cond, _&&_, _||_}
 use mathlib.Core.List.{List, [], _∷_, _++_}
-use Prim.Native.Nat.{ℕ, zero, suc, _+_, _-_}
+use Prim.Native.Nat.{ℕ, zero, suc, _+_, _-_, _≤_, _<_}
 use lib.Dec.{T, leb, ltb}
 use lib.ListN.{length, take, drop}
 use Rattle.model.specs.Occurrence.{Position, Occurs, stretch, shortest, anyFrom, isShare, isEmpty, isOccurrence, isStart}
@@ -37,6 +38,13 @@ leastFrom f i (suc n) other = elim (f i) [ true ↦ i | false ↦ leastFrom f (s
 abbrev pub shift : List Position → (window : List ℕ) → ℕ
 shift ps window = leastFrom (λ j. isBeginning ps (drop j window)) 1 (shortest ps - 1) (shortest ps)
 
+-- The same sentence as a statement (`shift-is` of proofs/).
+pub record ShiftIs (ps : List Position) (window : List ℕ) (j : ℕ) : Type 0 where
+  pub least : 1 ≤ j
+  pub most : j ≤ shortest ps
+  pub begins : j < shortest ps → Begins ps (drop j window)
+  pub none-before : (i : ℕ) → 1 ≤ i → i < j → Begins ps (drop i window) → ⊥
+
 -- "The sequence is 0, then always w plus the shift of w, as long as w + m ≤ text length, the first included." Each shift is at least 1, so that
 -- there are no more windows than places: the bound ends only the recursion (`windows-bound` of proofs/).
 abbrev pub windowsFrom : (bound : ℕ) → List Position → List ℕ → (w : ℕ) → List ℕ
@@ -48,6 +56,11 @@ windowsFrom (suc n) ps text w = elim (leb (w + shortest ps) (length text)) [
 
 abbrev pub windows : List Position → List ℕ → List ℕ
 windows ps text = windowsFrom (suc (length text)) ps text 0
+
+-- The same sentence as a statement: these are the windows from w on (`windows-are` of proofs/).
+abbrev pub WindowsAre : List Position → (text : List ℕ) (w : ℕ) → List ℕ → Type 0
+WindowsAre ps text w [] = length text < w + shortest ps
+WindowsAre ps text w (v ∷ vs) = (v ≡ w) × (w + shortest ps ≤ length text) × WindowsAre ps text (w + shift ps (windowAt ps text w)) vs
 
 -- "the earliest end there": the least end of an occurrence from s.
 abbrev pub earliestEnd : List Position → List ℕ → (s : ℕ) → ℕ

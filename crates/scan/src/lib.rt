@@ -5,10 +5,10 @@ ghost use Rattle.reference_decoder.specs.Decoder.{refusing};
 ghost use Rattle.scan_value.specs.Value.{scanLength, Possible, Fine};
 ghost use Rattle.scan.specs.Calls.{startOf, FeedTaken, FinishTaken, FeedIs, FinishIs};
 ghost use Rattle.scan.specs.Opening.{begun, OpenIs};
-use scan_piece::State;
 use reference_decoder::Answer;
 use reference_decoder::Held;
 use rule_compiler::Prepared;
+use scan_piece::State;
 
 // What preparing a rule, or an opening, answers.
 #[repr(C)]

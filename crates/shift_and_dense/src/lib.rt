@@ -9,9 +9,9 @@ ghost use lib.ListN.{length};
 ghost use Rattle.shift_and_loop.specs.Walking.{Walked, Room};
 ghost use Rattle.shift_and_step.specs.Settling.{BlocksOf, Settled};
 ghost use Rattle.shift_and_dense.specs.Pacing.{Reported};
+use shift_and_loop::Spot;
 use shift_and_step::Blocks;
 use shift_and_step::Masks;
-use shift_and_loop::Spot;
 
 // Steps up to `until`, and floods at each byte, where the blocks are free.
 fn walk_flooding(

@@ -8,9 +8,9 @@ ghost use Rattle.shift_and_loop.specs.Walking.{Passed, Walked, Room};
 ghost use Rattle.shift_and_step.specs.Settling.{BlocksOf};
 ghost use Rattle.shift_and_scan.specs.Running.{Scanned, Reached};
 use prefilter::Plan;
+use shift_and_loop::Spot;
 use shift_and_step::Blocks;
 use shift_and_step::Masks;
-use shift_and_loop::Spot;
 
 // After some bytes: the state, and how many ends were stored.
 pub struct Ran {

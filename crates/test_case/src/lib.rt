@@ -1,9 +1,9 @@
 // The finder next to `oracle` on one case: a rule, a fold flag and a raw text. A difference prints the
 // whole case.
-use test_compare::calls;
-use test_compare::calls::at_most;
 use oracle_rule::Rule;
 use oracle_rule::positions;
+use test_compare::calls;
+use test_compare::calls::at_most;
 use test_tally::Call;
 
 // Bytes of the longest raw text of a case.

@@ -2,13 +2,13 @@
 // with the plain scan of `oracle`.
 ghost use Prim.Native.Nat.{_≤_};
 ghost use lib.ListN.{length};
+use oracle::Plain;
+use oracle_rule::Rule;
 use test_compare::calls;
 use test_compare::calls::Compared;
 use test_compare::calls::at_most;
 use test_random::one_in;
 use test_random::up_to;
-use oracle::Plain;
-use oracle_rule::Rule;
 use test_tally::Call;
 
 const LIMIT: usize = 4_294_967_295;

@@ -1,0 +1,108 @@
+-- DEMAND 3, one theorem, `agreement`: for an accepted rule and fold flag, and any list of feeds and finishes as they were made. About the very contracts of `open`,
+-- `feed`, `finish` and `search`. Assumes nothing.
+use mathlib.Core.Path.{_≡_, refl, sym, ap, subst, _∙_}
+use mathlib.Core.Bool.{Bool, true, cond}
+use mathlib.Core.List.{List, [], _∷_}
+use Prim.Native.Nat.{ℕ, zero, suc, _+_, _≤_}
+use native.Mathlib.Omega.{arith}
+use lib.Dec.{eqb, ltb, nltb→le}
+use lib.ListN.{length, length-append}
+use borrow.Author.Tests.{eq-eqb, le-ltb}
+use Rattle.model.specs.Occurrence.{Position, ends, starts}
+use Rattle.model.specs.RuleText.{foldFlag, positions}
+use Rattle.model.specs.NumberedAnswers.{textLimit, parse, positionsBy, rulePositions, wholeRefusal, overwrite}
+use Rattle.model.specs.References.{formLimit}
+use Rattle.model.specs.PlainScan.{Call, feed, finish, Kept, refusal, after, plainScan, nothingKept, keptAfter}
+use Rattle.model.specs.WindowSearch.{windows}
+use Rattle.model.proofs.Accepted.{rule-ok}
+use Rattle.model.proofs.Truth.{branch}
+use Rattle.model.proofs.Decoding.{decode-length}
+use Rattle.model.proofs.Decided as Decided
+use Rattle.model.proofs.Plans.{plan-ends}
+use Rattle.model.proofs.Windows.{shift-is, windows-are, no-start-passed}
+use Rattle.reference_decoder.specs.declared.Answer.{Answer}
+use Rattle.scan.specs.declared.Opened.{Opened}
+use Rattle.scan.specs.Opening.{OpenIs}
+use Rattle.scan.specs.Calls.{Bytes}
+use Rattle.scan.proofs.PlainScan.{OpenedWith, opened-with}
+use Rattle.jazhuppe.specs.Searching.{answering, searchAnswer, searchList, SearchIs}
+use Rattle.jazhuppe.specs.Agreement.{Made, HandedOn, callsOf, AllAgree, reportedBy, Finished, planOf, Agreement}
+use Rattle.jazhuppe.proofs.MadeCalls.{made-is-plain, reported-ends, finished-is}
+
+-- ---- a finished plan is never over the limit, so that its search is not refused by 10
+
+kept-small : (cs : List Call) (k : Kept) → length (k .taken) ≤ textLimit → length (keptAfter formLimit k cs .taken) ≤ textLimit
+kept-small [] k h = h
+kept-small (c ∷ cs) k h = go c (refusal formLimit (k .finished) (length (k .taken)) c) refl (kept-small cs)
+  where
+    go : (c : Call) (r : ℕ) → refusal formLimit (k .finished) (length (k .taken)) c ≡ r → ((k : Kept) → length (k .taken) ≤ textLimit → length (keptAfter formLimit k cs .taken) ≤ textLimit)
+        → length (keptAfter formLimit k (c ∷ cs) .taken) ≤ textLimit
+    go (feed piece n) zero q ih =
+        let l =
+        branch (k .finished) q (λ t e. absurd (omega arith)) λ t e.
+        branch (ltb textLimit (length (k .taken) + length piece)) e (λ t e. absurd (omega arith)) λ t e.
+        nltb→le textLimit (length (k .taken) + length piece) t
+        in
+        rw (q, keptAfter) (ih (after (feed piece n) k) (omega (arith, length-append (k .taken) piece)))
+    go (finish n) zero q ih = rw (q, keptAfter) (ih (after (finish n) k) h)
+    go c (suc n) q ih = rw (q, keptAfter) (ih k h)
+
+plan-small : (cs : List Made) → length (planOf cs) ≤ textLimit
+plan-small cs =
+    omega (arith, kept-small (callsOf cs) nothingKept (omega arith), decode-length formLimit (keptAfter formLimit nothingKept (callsOf cs) .taken))
+
+module _ (flag : ℕ) (rule : List ℕ) (bytes : Bytes rule) where
+  abbrev ps : List Position
+  ps = rulePositions (foldFlag flag) rule
+
+  module _ (s₀ : List ℕ) (o : Opened) (s : List ℕ) (opens : OpenIs flag rule s₀ o s) (ok : o .number ≡ 0) where
+    opened : OpenedWith flag rule s
+    opened = opened-with flag rule s₀ o s opens ok
+
+    -- a search that is not refused
+    module _ (text list : List ℕ) (small : length text ≤ textLimit) (room : length text ≤ length list) (r : Answer) (list′ : List ℕ) (x : SearchIs flag rule text list r list′) where
+      taken : eqb (wholeRefusal (length text) (length list)) 0 ≡ true
+      taken = eq-eqb (wholeRefusal (length text) (length list)) 0 (rw (le-ltb _ _ small, le-ltb _ _ room))
+
+      by-positions : positions (foldFlag flag) (opened .elements) ≡ ps
+      by-positions = sym (ap (positionsBy (foldFlag flag)) (opened .parses))
+
+      gives : (r ≡ answering 0 0 (length (starts ps text)) (length (windows ps text))) × (list′ ≡ overwrite list (starts ps text))
+      gives =
+          let qs = positions (foldFlag flag) (opened .elements) in (
+            x .answers ∙ ap (searchAnswer flag text (length list)) (opened .parses)
+                ∙ ap (λ (b : Bool). cond b (answering 0 0 (length (starts qs text)) (length (windows qs text))) (answering (wholeRefusal (length text) (length list)) 0 0 0)) taken
+                ∙ ap (λ (ps : List Position). answering 0 0 (length (starts ps text)) (length (windows ps text))) by-positions,
+            x .lists ∙ ap (searchList flag text list) (opened .parses) ∙ ap (λ (b : Bool). cond b (overwrite list (starts qs text)) list) taken
+                ∙ ap (λ (ps : List Position). overwrite list (starts ps text)) by-positions,
+          )
+
+    answers : (cs : List Made) → HandedOn s cs → AllAgree cs (plainScan flag rule (callsOf cs))
+    answers = made-is-plain flag rule bytes s₀ o s opens ok
+
+    reports : (cs : List Made) → HandedOn s cs → Finished cs → reportedBy cs ≡ ends ps (planOf cs)
+    reports cs m f =
+        let a = answers cs m in
+        reported-ends cs (plainScan flag rule (callsOf cs)) a
+        ∙ plan-ends flag rule (opened .elements) bytes (opened .parses) (callsOf cs) (finished-is formLimit ps cs nothingKept a f)
+
+  pub agreement : (s₀ : List ℕ) (o : Opened) (s : List ℕ) → OpenIs flag rule s₀ o s → o .number ≡ 0 → Agreement flag rule s (rulePositions (foldFlag flag) rule)
+  agreement s₀ o s opens ok =
+      let k = rule-ok (foldFlag flag) rule (opened s₀ o s opens ok .elements) bytes (opened s₀ o s opens ok .parses) in
+      record {
+        answers = answers s₀ o s opens ok;
+        reports = reports s₀ o s opens ok;
+        an-end = Decided.ends-are ps;
+        ends-rise = Decided.ends-rise ps;
+        search = λ cs list r list′ x l. gives s₀ o s opens ok (planOf cs) list (plan-small cs) l r list′ x;
+        a-start = Decided.starts-are ps;
+        starts-rise = Decided.starts-rise ps;
+        sequence = windows-are ps (k .inhabited) (k .not-empty);
+        shifts = shift-is ps (k .inhabited) (k .not-empty);
+        moves = no-start-passed ps (k .inhabited) (k .not-empty);
+        alike = λ t₀ q t x z cs ds m n f g e. reports s₀ o s opens ok cs m f ∙ ap (ends ps) e ∙ sym (reports t₀ q t x z ds n g);
+        alike-search = λ cs ds e list r r₂ l l₂ x y. (
+          x .answers ∙ ap (λ (t : List ℕ). searchAnswer flag t (length list) (parse (foldFlag flag) rule)) e ∙ sym (y .answers),
+          x .lists ∙ ap (λ (t : List ℕ). searchList flag t list (parse (foldFlag flag) rule)) e ∙ sym (y .lists),
+        );
+      }
