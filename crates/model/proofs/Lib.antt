@@ -13,5 +13,4 @@ pub mod Borders
 pub mod Decoding
 pub mod Scans
 pub mod Plans
-pub mod Automaton
 pub mod LentLists
