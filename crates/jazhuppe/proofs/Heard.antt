@@ -16,8 +16,8 @@ use Rattle.model.specs.Occurrence.{Position}
 use Rattle.model.specs.RuleText.{foldFlag}
 use Rattle.model.specs.References.{formLimit}
 use Rattle.model.specs.PlainScan.{Call, feed, finish, pieceOf, listOf, refused, reported, Kept, nothingKept, textOf, refusal, refusalFor, newEnds, scanFrom, plainScan, reportedEnds, keptAfter}
-use Rattle.reference_decoder.specs.declared.Answer.{Answer}
-use Rattle.reference_decoder.specs.Decoder.{refusing, counting}
+use Rattle.decoder.specs.declared.Answer.{Answer}
+use Rattle.decoder.specs.Decoder.{refusing, counting}
 use Rattle.scan.specs.declared.Opened.{Opened}
 use Rattle.scan.specs.Opening.{OpenIs}
 use Rattle.scan.specs.Calls.{numberOf, endsOf, after, CallIs, runFrom, Bytes, PiecesAreBytes}

@@ -25,7 +25,7 @@ use Rattle.model.proofs.Decided.{RisingFrom}
 use Rattle.model.proofs.Decided as Decided
 use Rattle.model.proofs.Plans.{plan-ends}
 use Rattle.model.proofs.Windows.{shift-is, no-start-passed}
-use Rattle.reference_decoder.specs.declared.Answer.{Answer}
+use Rattle.decoder.specs.declared.Answer.{Answer}
 use Rattle.scan.specs.declared.Opened.{Opened}
 use Rattle.scan.specs.Opening.{openingOf, OpenIs}
 use Rattle.scan.specs.Calls.{runFrom, Bytes, PiecesAreBytes}
