@@ -20,7 +20,7 @@ use Rattle.model.proofs.Decoding.{decode-length}
 use Rattle.model.proofs.Decided as Decided
 use Rattle.model.proofs.Plans.{plan-ends}
 use Rattle.model.proofs.Windows.{shift-is, windows-are, no-start-passed}
-use Rattle.reference_decoder.specs.declared.Answer.{Answer}
+use Rattle.decoder.specs.declared.Answer.{Answer}
 use Rattle.scan.specs.declared.Opened.{Opened}
 use Rattle.scan.specs.Opening.{OpenIs}
 use Rattle.scan.specs.Calls.{Bytes}

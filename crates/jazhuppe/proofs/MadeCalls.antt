@@ -13,8 +13,8 @@ use Rattle.model.specs.NumberedAnswers.{overwrite}
 use Rattle.model.specs.Occurrence.{Position}
 use Rattle.model.specs.PlainScan as Plain
 use Rattle.model.specs.PlainScan.{Call, pieceOf, listOf, refused, reported, Kept, textOf, refusal, refusalFor, newEnds, scanFrom, plainScan, reportedEnds, keptAfter}
-use Rattle.reference_decoder.specs.declared.Answer.{Answer}
-use Rattle.reference_decoder.specs.Decoder.{refusing, counting}
+use Rattle.decoder.specs.declared.Answer.{Answer}
+use Rattle.decoder.specs.Decoder.{refusing, counting}
 use Rattle.scan.specs.declared.Opened.{Opened}
 use Rattle.scan.specs.Opening.{OpenIs}
 use Rattle.scan.specs.Calls.{numberOf, after, CallIs, runFrom, Bytes, PiecesAreBytes}

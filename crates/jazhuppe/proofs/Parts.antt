@@ -16,11 +16,11 @@ use Rattle.model.specs.WindowSearch.{windows}
 use Rattle.model.proofs.Truth.{and-intro}
 use Rattle.model.proofs.Accepted.{RuleOk, rule-ok, shortest-length}
 use Rattle.shift_and.specs.Masks.{Encodes}
-use Rattle.reference_decoder.specs.declared.Answer.{Answer}
-use Rattle.rule_compiler.specs.declared.Prepared.{Prepared}
-use Rattle.rule_compiler.specs.Preparing.{preparedBy, prepared, Prepares}
-use Rattle.rule_compiler.specs.Tables.{Fillable, Filled}
-use Rattle.rule_compiler.proofs.Encoded.{is-refused, is-accepted, may-fill, positions-are, shortest-is, encodes-forwards, encodes-reversed}
+use Rattle.decoder.specs.declared.Answer.{Answer}
+use Rattle.rule_parser.specs.declared.Prepared.{Prepared}
+use Rattle.rule_parser.specs.Preparing.{preparedBy, prepared, Prepares}
+use Rattle.rule_table.specs.Tables.{Fillable, Filled}
+use Rattle.rule_table.proofs.Encoded.{is-refused, is-accepted, may-fill, positions-are, shortest-is, encodes-forwards, encodes-reversed}
 use Rattle.window_reader.specs.Reading.{Tables, FirstIs}
 use Rattle.window_search.specs.declared.Rule.{Rule}
 use Rattle.window_search.specs.declared.Found.{Found}

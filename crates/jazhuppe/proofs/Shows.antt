@@ -13,10 +13,10 @@ use Rattle.model.specs.NumberedAnswers.{textLimit, Parsed, accepted, positionsB
 use Rattle.model.specs.WindowSearch.{emptyPart, partFrom, partBy, shown}
 use Rattle.model.proofs.Windows.{take-drop}
 use Rattle.model.proofs.Earliest.{part-empty}
-use Rattle.rule_compiler.specs.declared.Prepared.{Prepared}
-use Rattle.rule_compiler.specs.Preparing.{Prepares}
-use Rattle.rule_compiler.specs.Tables.{Fillable, Filled}
-use Rattle.rule_compiler.proofs.Encoded.{is-refused, is-accepted, may-fill}
+use Rattle.rule_parser.specs.declared.Prepared.{Prepared}
+use Rattle.rule_parser.specs.Preparing.{Prepares}
+use Rattle.rule_table.specs.Tables.{Fillable, Filled}
+use Rattle.rule_table.proofs.Encoded.{is-refused, is-accepted, may-fill}
 use Rattle.window_search.specs.declared.Rule.{Rule}
 use Rattle.window_search.specs.declared.Span.{Span}
 use Rattle.window_search.specs.Searching.{spanOf, SpanIs}

@@ -11,8 +11,8 @@ use Rattle.model.specs.References.{formLimit, decode}
 use Rattle.model.specs.PlainScan as Plain
 use Rattle.model.specs.PlainScan.{Call, feed, finish, refused, reported, plainScan, nothingKept, keptAfter}
 use Rattle.model.specs.WindowSearch.{windowAt, ShiftIs, shift, WindowsAre, windows}
-use Rattle.reference_decoder.specs.declared.Answer.{Answer}
-use Rattle.reference_decoder.specs.Decoder.{refusing, counting}
+use Rattle.decoder.specs.declared.Answer.{Answer}
+use Rattle.decoder.specs.Decoder.{refusing, counting}
 use Rattle.scan.specs.declared.Opened.{Opened}
 use Rattle.scan.specs.Opening.{OpenIs}
 use Rattle.scan.specs.Calls.{FeedIs, FinishIs, Bytes}

@@ -9,10 +9,10 @@ use Rattle.model.specs.Occurrence.{starts}
 use Rattle.model.specs.RuleText.{foldFlag, positions}
 use Rattle.model.specs.NumberedAnswers.{textLimit, Parsed, refused, accepted, parse, rulePositions, wholeRefusal, overwrite}
 use Rattle.model.specs.WindowSearch.{windows}
-use Rattle.reference_decoder.specs.declared.Answer.{Answer}
-use Rattle.rule_compiler.specs.declared.Prepared.{Prepared}
-use Rattle.rule_compiler.specs.Preparing.{Prepares}
-use Rattle.rule_compiler.specs.Tables.{mirror}
+use Rattle.decoder.specs.declared.Answer.{Answer}
+use Rattle.rule_parser.specs.declared.Prepared.{Prepared}
+use Rattle.rule_parser.specs.Preparing.{Prepares}
+use Rattle.rule_table.specs.Tables.{mirror}
 use Rattle.window_search.specs.declared.Rule.{Rule}
 
 abbrev pub answering : (number place count windows : ℕ) → Answer

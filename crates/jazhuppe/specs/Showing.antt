@@ -7,8 +7,8 @@ use Rattle.model.specs.Occurrence.{stretch}
 use Rattle.model.specs.RuleText.{foldFlag}
 use Rattle.model.specs.NumberedAnswers.{rulePositions}
 use Rattle.model.specs.WindowSearch.{partFrom, shown}
-use Rattle.rule_compiler.specs.declared.Prepared.{Prepared}
-use Rattle.rule_compiler.specs.Preparing.{Prepares}
+use Rattle.rule_parser.specs.declared.Prepared.{Prepared}
+use Rattle.rule_parser.specs.Preparing.{Prepares}
 use Rattle.window_search.specs.declared.Span.{Span}
 use Rattle.window_search.specs.Searching.{spanOf}
 

@@ -1,11 +1,11 @@
 // The calls of the C interface, include/jazhuppe.h. A slice is a pointer and a length there.
-ghost use Rattle.reference_decoder.specs.Decoder.{DecodeIs};
+ghost use Rattle.decoder.specs.Decoder.{DecodeIs};
 ghost use Rattle.scan.specs.Opening.{OpenIs};
 ghost use Rattle.scan.specs.Calls.{FeedIs, FinishIs};
 ghost use Rattle.jazhuppe.specs.Preparing.{PrepareIs};
 ghost use Rattle.jazhuppe.specs.Searching.{SearchIs};
 ghost use Rattle.jazhuppe.specs.Showing.{ShownIs};
-use reference_decoder::Answer;
+use decoder::Answer;
 use scan::Opened;
 use window_search::Span;
 
@@ -14,7 +14,7 @@ use window_search::Span;
 pub extern "C" fn jazhuppe_prepare(rule: &[u8], fold: u32) -> Opened
     ensures { λ r. ⌜ PrepareIs fold (now (rule .entry)) r ⌝ }
 {
-    let p = rule_compiler::prepare(rule, fold);
+    let p = rule_parser::prepare(rule, fold);
     Opened {
         number: p.number,
         place: p.place,
@@ -52,7 +52,7 @@ pub extern "C" fn jazhuppe_finish(scan: &mut [u64], ends: &mut [u32]) -> Answer
 pub extern "C" fn jazhuppe_decode(raw: &[u8], out: &mut [u8]) -> Answer
     ensures { λ r. ⌜ DecodeIs (now (raw .entry)) (now (out .entry)) r (now (out .exit)) ⌝ }
 {
-    reference_decoder::decode(raw, out)
+    decoder::decode(raw, out)
 }
 
 // Searches a whole decoded text.

@@ -8,8 +8,8 @@ ghost use Rattle.jazhuppe.specs.Showing.{Showable, PartIs, ShownIs, Show
 
 pub mod exports;
 
-use reference_decoder::Answer;
-use rule_compiler::Prepared;
+use decoder::Answer;
+use rule_parser::Prepared;
 use shift_and_step::Masks;
 use window_search::Rule;
 use window_search::Span;
@@ -34,8 +34,8 @@ fn rule_of(p: Prepared) -> Rule
 {
     let n = p.positions as u64;
     let size = p.shortest as usize;
-    let repeats = rule_compiler::tables::mirrored(p.repeats, p.positions);
-    let optional = rule_compiler::tables::mirrored(p.optional, p.positions);
+    let repeats = rule_table::mirrored(p.repeats, p.positions);
+    let optional = rule_table::mirrored(p.optional, p.positions);
     let forward = Masks {
         repeats: p.repeats,
         optional: p.optional,
@@ -73,9 +73,9 @@ fn search_accepted(rule: &[u8], fold: u32, p: Prepared, text: &[u8], starts: &mu
     let total = p.positions;
     let prepared = rule_of(p);
     let mut forward = [0u64; 256];
-    rule_compiler::tables::fill(rule, fold, total, &mut forward, false);
+    rule_table::fill(rule, fold, total, &mut forward, false);
     let mut reversed = [0u64; 256];
-    rule_compiler::tables::fill(rule, fold, total, &mut reversed, true);
+    rule_table::fill(rule, fold, total, &mut reversed, true);
     let mut first = [0u64; 256];
     let back = prepared.reversed;
     window_reader::first_steps(&reversed, back, &mut first);
@@ -89,7 +89,7 @@ fn search_accepted(rule: &[u8], fold: u32, p: Prepared, text: &[u8], starts: &mu
 pub fn search(rule: &[u8], fold: u32, text: &[u8], starts: &mut [u32]) -> Answer
     ensures { λ r. ⌜ SearchIs fold (now (rule .entry)) (now (text .entry)) (now (starts .entry)) r (now (starts .exit)) ⌝ }
 {
-    let p = rule_compiler::prepare(rule, fold);
+    let p = rule_parser::prepare(rule, fold);
     if p.number != 0 {
         return answer(p.number, p.place, 0, 0);
     }
@@ -108,7 +108,7 @@ fn span_accepted(rule: &[u8], fold: u32, p: Prepared, text: &[u8], start: usize)
     let total = p.positions;
     let prepared = rule_of(p);
     let mut forward = [0u64; 256];
-    rule_compiler::tables::fill(rule, fold, total, &mut forward, false);
+    rule_table::fill(rule, fold, total, &mut forward, false);
     let on = prepared.forward;
     window_search::part_from(&forward, on, text, start)
 }
@@ -118,7 +118,7 @@ fn span(rule: &[u8], fold: u32, text: &[u8], start: usize) -> Span
     ensures { λ r. ⌜ ShownIs fold (now (rule .entry)) (now (text .entry)) start r ⌝ }
 {
     let len = text.len();
-    let p = rule_compiler::prepare(rule, fold);
+    let p = rule_parser::prepare(rule, fold);
     if p.number != 0 {
         return Span { from: len, to: len };
     }

@@ -2,7 +2,7 @@
 // sorts the input into both, however long it is and in whatever pieces it comes; `list` prints what
 // the finder answers.
 ghost use Prim.Native.Nat.{_≤_};
-use reference_decoder::Answer;
+use decoder::Answer;
 
 // Bytes of the rule that are kept: one more than a rule may have, so that a longer one is refused.
 pub const RULE_ROOM: usize = 256;
@@ -159,13 +159,13 @@ fn list_starts(rule: &[u8], decoded: &[u8]) {
 fn list_plan(rule: &[u8], plan: &[u8]) {
     list_ends(rule, plan);
     let mut decoded = [0u8; PLAN_LIMIT];
-    let a = reference_decoder::decode(plan, &mut decoded);
+    let a = decoder::decode(plan, &mut decoded);
     let n = at_most(a.count as usize, PLAN_LIMIT);
     list_starts(rule, &decoded[0..n]);
 }
 
 fn list_rule(rule: &[u8], plan: &[u8]) {
-    let p = rule_compiler::prepare(rule, 0);
+    let p = rule_parser::prepare(rule, 0);
     if p.number != 0 {
         text(b"refused ");
         number(p.number);

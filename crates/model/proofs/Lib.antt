@@ -11,6 +11,7 @@ pub mod Refusals
 pub mod Forms
 pub mod Borders
 pub mod Decoding
+pub mod Cuts
 pub mod Scans
 pub mod Plans
 pub mod LentLists

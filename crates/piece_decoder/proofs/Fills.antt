@@ -14,12 +14,12 @@ use borrow.Rule.Slice.PartMut.{putMid, postOf, midOf, same-len-mid}
 use Rattle.model.specs.References.{formLimit, none, referenceAt, utf8, canGrow, heldTail, letOut}
 use Rattle.model.proofs.LentLists.{sets-from, front-sets, front-put}
 use Rattle.literal_run.specs.Runs.{RunSpilled}
-use Rattle.reference_decoder.specs.declared.Reference.{Reference}
-use Rattle.reference_decoder.specs.declared.Reference.the-variants.{Code, Plain, Open}
-use Rattle.reference_decoder.specs.Reader.{reading, Moves, ReadIs}
-use Rattle.reference_decoder.specs.Decoder.{PutFine, Put}
-use Rattle.reference_decoder.proofs.Cuts.{letOut-reference, held-reference, letOut-none, held-none, held-open, letOut-run, held-run, all-held}
-use Rattle.reference_decoder.proofs.Readings.{code-told, plain-told, open-told}
+use Rattle.reference_reader.specs.declared.Reference.{Reference}
+use Rattle.reference_reader.specs.declared.Reference.the-variants.{Decoded, Literal, Incomplete}
+use Rattle.reference_reader.specs.Reader.{reading, Moves, ReadIs}
+use Rattle.reference_reader.specs.Utf8.{PutFine, Put}
+use Rattle.model.proofs.Cuts.{letOut-reference, held-reference, letOut-none, held-none, held-open, letOut-run, held-run, all-held}
+use Rattle.reference_reader.proofs.Readings.{decoded-told, literal-told, incomplete-told}
 use Rattle.piece_decoder.specs.declared.Token.{Token}
 use Rattle.piece_decoder.specs.Filling.{TokenIs, FilledIs}
 
@@ -70,9 +70,9 @@ module _ (piece room : List ℕ) (i at : ℕ) (h : i < length piece) (wide : at 
     read-rest = x .is ∙ ap (reading formLimit) rest-is
 
     -- a legal reference
-    module _ (code k : ℕ) (e : r ≡ Code code k) where
-      moving : Moves (drop i piece) (Code code k)
-      moving = subst (λ (l : List ℕ). Moves l (Code code k)) rest-is (subst (Moves (midOf i (length piece - i) piece)) e (x .moves))
+    module _ (code k : ℕ) (e : r ≡ Decoded code k) where
+      moving : Moves (drop i piece) (Decoded code k)
+      moving = subst (λ (l : List ℕ). Moves l (Decoded code k)) rest-is (subst (Moves (midOf i (length piece - i) piece)) e (x .moves))
 
       pub code-fits : PutFine (midOf at (length room - at) room) code
       code-fits =
@@ -91,15 +91,15 @@ module _ (piece room : List ℕ) (i at : ℕ) (h : i < length piece) (wide : at 
           let m₂ = m .2 in
           omega (arith, p .count, length-drop i piece)
 
-      pub token-code : (n : ℕ) (part : List ℕ) → Put (midOf at (length room - at) room) code n part
+      pub token-decoded : (n : ℕ) (part : List ℕ) → Put (midOf at (length room - at) room) code n part
           → TokenIs piece i room at (record { read = i + k; written = at + n; held = false }) (putMid at (length room - at) room part)
-      token-code n part p =
+      token-decoded n part p =
           let m = moving in
           let m₀ = m .0 in
           let m₁ = m .1 in
           let m₂ = m .2 in
           let c = p .count in
-          let q = code-told formLimit (drop i piece) code k (sym e ∙ read-rest) in
+          let q = decoded-told formLimit (drop i piece) code k (sym e ∙ read-rest) in
           let w : at + length (utf8 code) ≤ length room = omega (arith, length-drop i piece) in
           let l : putMid at (length room - at) room part ≡ sets room at (utf8 code) = rw (p .list) (sets-from room at (utf8 code) w) in
           record {
@@ -116,9 +116,9 @@ module _ (piece room : List ℕ) (i at : ℕ) (h : i < length piece) (wide : at 
           }
 
     -- a byte that begins no form
-    pub token-plain : r ≡ Plain → TokenIs piece i room at (record { read = i + 1; written = at + 1; held = false }) (set room at (getD piece i 0))
-    token-plain e =
-        let f = plain-told formLimit (drop i piece) (sym e ∙ read-rest) in
+    pub token-literal : r ≡ Literal → TokenIs piece i room at (record { read = i + 1; written = at + 1; held = false }) (set room at (getD piece i 0))
+    token-literal e =
+        let f = literal-told formLimit (drop i piece) (sym e ∙ read-rest) in
         let c = drop-cons piece i 0 h in
         let gr : canGrow formLimit (getD piece i 0 ∷ drop (suc i) piece) ≡ false = ap (canGrow formLimit) (sym c) ∙ f .1 in
         let rf : referenceAt formLimit (getD piece i 0 ∷ drop (suc i) piece) ≡ none = ap (referenceAt formLimit) (sym c) ∙ f .0 in
@@ -139,9 +139,9 @@ module _ (piece room : List ℕ) (i at : ℕ) (h : i < length piece) (wide : at 
         }
 
     -- all the rest can still grow
-    pub token-open : r ≡ Open → TokenIs piece i room at (record { read = i; written = at; held = true }) room
-    token-open e =
-        let f = open-told formLimit (drop i piece) (sym e ∙ read-rest) in
+    pub token-incomplete : r ≡ Incomplete → TokenIs piece i room at (record { read = i; written = at; held = true }) room
+    token-incomplete e =
+        let f = incomplete-told formLimit (drop i piece) (sym e ∙ read-rest) in
         let c = drop-cons piece i 0 h in
         record {
           gives = [];

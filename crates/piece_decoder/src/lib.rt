@@ -1,8 +1,10 @@
 // What a piece lets out, decoded into a room, so that it can be stepped over in one run.
+pub mod held;
+
 ghost use Prim.Native.Nat.{_+_, _≤_, _<_};
 ghost use lib.ListN.{length};
 ghost use Rattle.piece_decoder.specs.Filling.{TokenIs, FilledIs};
-use reference_decoder::Reference;
+use reference_reader::Reference;
 
 // After one token: how far the piece is read and the room written, and whether the rest is held back.
 pub struct Token {
@@ -17,10 +19,10 @@ fn fill_amp(piece: &[u8], i: usize, room: &mut [u8], at: usize) -> Token
     requires { ⌜ at + length (now piece) ≤ length (now room) + i ⌝ }
     ensures { λ r. ⌜ TokenIs (now (piece .entry)) i (now (room .entry)) at r (now (room .exit)) ⌝ }
 {
-    let found = reference_decoder::read_reference(&piece[i..]);
+    let found = reference_reader::read_reference(&piece[i..]);
     match found {
-        Reference::Code(code, k) => {
-            let n = reference_decoder::put_utf8(&mut room[at..], code);
+        Reference::Decoded(code, k) => {
+            let n = reference_reader::put_utf8(&mut room[at..], code);
             let after = i + k;
             let end = at + n;
             return Token {
@@ -29,7 +31,7 @@ fn fill_amp(piece: &[u8], i: usize, room: &mut [u8], at: usize) -> Token
                 held: false,
             };
         }
-        Reference::Plain => {
+        Reference::Literal => {
             room[at] = piece[i];
             let after = i + 1;
             let end = at + 1;
@@ -39,7 +41,7 @@ fn fill_amp(piece: &[u8], i: usize, room: &mut [u8], at: usize) -> Token
                 held: false,
             };
         }
-        Reference::Open => {
+        Reference::Incomplete => {
             return Token {
                 read: i,
                 written: at,

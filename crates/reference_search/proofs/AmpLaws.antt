@@ -11,7 +11,7 @@ use lib.Seq.{drop-cons, drop-drop, take-all}
 use borrow.Author.Tests.{ne-eqb, eqb-false, eqb-true}
 use Rattle.model.specs.References.{formLimit, none, referenceAt, notAmp, canGrow, heldTail, letOut}
 use Rattle.model.proofs.Truth.{or-false-left, or-false-right, T-to}
-use Rattle.reference_decoder.proofs.Cuts.{held-none, letOut-none, held-plain, letOut-plain}
+use Rattle.model.proofs.Cuts.{held-none, letOut-none, held-plain, letOut-plain}
 use Rattle.byte_search.specs.Looks.{Missed, Placed, same}
 use Rattle.byte_search.proofs.LookLaws.{Nearest, near-on, miss-one, miss-join, miss-first}
 use Rattle.reference_search.specs.Amps.{second, ampAt, Verbatim}

@@ -16,9 +16,9 @@ use Rattle.model.specs.RuleText.{noEnd, anEnd, closes, misfit, item, faulty, it
 use Rattle.rule_element.specs.declared.Close.the-variants.{Wrong as NoClose, At}
 use Rattle.rule_element.specs.declared.Items.{Items}
 use Rattle.rule_element.specs.declared.Kind.the-variants.{Class}
-use Rattle.rule_element.specs.declared.Spelling.{Spelling}
-use Rattle.rule_element.specs.declared.Spelling.the-variants.{Spelt, Misspelt}
-use Rattle.rule_element.specs.declared.Spelled.{Spelled}
+use Rattle.rule_element.specs.declared.KindAnswer.{KindAnswer}
+use Rattle.rule_element.specs.declared.KindAnswer.the-variants.{Spelt, Misspelt}
+use Rattle.rule_element.specs.declared.KindResult.{KindResult}
 use Rattle.byte_set.specs.Sets.{addRanges, none, widen, turn, isEmpty}
 use Rattle.rule_element.specs.Reading.{collect, ReadsItems, setOf, misspelt, spelledBy, SpellingMoves, ReadsClass, ReadsBracket}
 use Rattle.rule_element.proofs.Ends.{past-end, within}
@@ -76,10 +76,10 @@ items-missed faulty r q e = refl
 items-missed (items rs n) r q e = let z : _≡_ {A = ℕ} 0 1 = cc in clash z
 
 module _ (fold : Bool) (used : ℕ) (turned : Bool) (s : List ℕ) (from p : ℕ) (ep : p ≡ getD s from 0) where
-  no-class : (r : Spelled) → r ≡ misspelt 3 → classOf fold turned (itemsFrom 0 from (drop from s)) ≡ bad 3 → ReadsClass fold used turned s from r
+  no-class : (r : KindResult) → r ≡ misspelt 3 → classOf fold turned (itemsFrom 0 from (drop from s)) ≡ bad 3 → ReadsClass fold used turned s from r
   no-class r q e = record { is = q ∙ sym (ap (spelledBy fold used 0) e); moves = rw q tt }
 
-  pub class-empty : p ≡ 93 → (r : Spelled) → r ≡ misspelt 3 → ReadsClass fold used turned s from r
+  pub class-empty : p ≡ 93 → (r : KindResult) → r ≡ misspelt 3 → ReadsClass fold used turned s from r
   class-empty e r q = no-class r q (ap (classOf fold turned) (ap (itemsFrom 0 from) d ∙ u))
     where
       d : drop from s ≡ getD s from 0 ∷ drop (suc from) s
@@ -92,7 +92,7 @@ module _ (fold : Bool) (used : ℕ) (turned : Bool) (s : List ℕ) (from p : ℕ
       u = rw (t, itemsFrom)
 
   module _ (h : p ≡ 93 → ⊥) (i : Items) (ri : ReadsItems s from i) where
-    pub class-open : i .close ≡ NoClose → (r : Spelled) → r ≡ misspelt 3 → ReadsClass fold used turned s from r
+    pub class-open : i .close ≡ NoClose → (r : KindResult) → r ≡ misspelt 3 → ReadsClass fold used turned s from r
     class-open e r q = no-class r q (ap (classOf fold turned) (items-missed (itemsFrom 0 from (drop from s)) i (ri .is) e))
 
     module _ (next : ℕ) (e : i .close ≡ At next) (t : List ℕ) (et : t ≡ turn turned (widen fold (i .set))) (m : Bool) (em : m ≡ isEmpty t) where
@@ -118,7 +118,7 @@ module _ (fold : Bool) (used : ℕ) (turned : Bool) (s : List ℕ) (from p : ℕ
       tested : (b : Bool) → someBelow (kindSet fold (class turned (some .0 ∷ some .1))) 256 ≡ b → classOf fold turned (itemsFrom 0 from (drop from s)) ≡ cond b (good (class turned (some .0 ∷ some .1)) next) (bad 3)
       tested b q = ap (classOf fold turned) is-items ∙ ap (λ (x : Bool). cond x (good (class turned (some .0 ∷ some .1)) next) (bad 3)) q
 
-      pub class-bare : m ≡ true → (r : Spelled) → r ≡ misspelt 3 → ReadsClass fold used turned s from r
+      pub class-bare : m ≡ true → (r : KindResult) → r ≡ misspelt 3 → ReadsClass fold used turned s from r
       class-bare y r q =
           no-class r q
           (tested false
@@ -177,11 +177,11 @@ class-later fold used at t (items (r ∷ rs) n) = go (someBelow (kindSet fold (c
     go true = ap (λ (j : ℕ). record { answer = Spelt (Class used) j; set = setOf fold (class t (r ∷ rs)) }) (zero-add (at + n))
     go false = refl
 
-nearer : (s : List ℕ) (at from : ℕ) (a : Spelling) → at < from → SpellingMoves s from a → SpellingMoves s at a
+nearer : (s : List ℕ) (at from : ℕ) (a : KindAnswer) → at < from → SpellingMoves s from a → SpellingMoves s at a
 nearer s at from (Misspelt n) l m = tt
 nearer s at from (Spelt k next) l m = let q = m .0 in (omega arith, m .1, m .2)
 
-module _ (fold : Bool) (used : ℕ) (s : List ℕ) (at : ℕ) (h : at < length s) (p : ℕ) (ep : p ≡ getD s (at + 1) 0) (r : Spelled) where
+module _ (fold : Bool) (used : ℕ) (s : List ℕ) (at : ℕ) (h : at < length s) (p : ℕ) (ep : p ≡ getD s (at + 1) 0) (r : KindResult) where
   from-class : (from k : ℕ) (t : Bool) (cs : List ℕ) → from ≡ at + k → r ≡ spelledBy fold used 0 (classOf fold t (itemsFrom 0 from cs)) → r ≡ spelledBy fold used at (classOf fold t (itemsFrom 0 k cs))
   from-class from k t cs e q =
       q ∙ ap (λ (x : Model.Items). spelledBy fold used 0 (classOf fold t x)) (ap (λ (j : ℕ). itemsFrom 0 j cs) e ∙ items-later at 0 k cs) ∙ class-later fold used at t (itemsFrom 0 k cs)

@@ -10,22 +10,22 @@ use borrow.Author.Tests.{le-leb, lt-leb}
 use Rattle.model.specs.RuleText as Model
 use Rattle.model.specs.RuleText.{bad, good, byte, any, class, gap, kindAt, once, optional, repeatable, both, oftenAfter, markBytes, positionLimit}
 use Rattle.rule_element.specs.declared.Kind.{Kind}
-use Rattle.rule_element.specs.declared.Spelling.the-variants.{Spelt, Misspelt}
-use Rattle.rule_element.specs.declared.Spelled.{Spelled}
+use Rattle.rule_element.specs.declared.KindAnswer.the-variants.{Spelt, Misspelt}
+use Rattle.rule_element.specs.declared.KindResult.{KindResult}
 use Rattle.rule_element.specs.declared.Often.{Often}
-use Rattle.rule_element.specs.declared.Reading.the-variants.{Got}
-use Rattle.rule_element.specs.declared.Read.{Read}
+use Rattle.rule_element.specs.declared.ElementAnswer.the-variants.{Got}
+use Rattle.rule_element.specs.declared.ElementResult.{ElementResult}
 use Rattle.rule_element.specs.Reading.{KindFits, kindOf, setOf, spelledBy, ReadsKind, oftenOf, markAt, oftenBy, bytesOf, sizeOf, noElement, readBy, ReadsElement}
 use Rattle.rule_element.proofs.Ends.{past-end}
 
 -- ---- an element
 
 -- what `read_kind` found, read back into the model's
-spelled-bad : (fold : Bool) (used at : ℕ) (x : Model.ReadKind) (k : Spelled) → k ≡ spelledBy fold used at x → (n : ℕ) → k .answer ≡ Misspelt n → x ≡ bad n
+spelled-bad : (fold : Bool) (used at : ℕ) (x : Model.ReadKind) (k : KindResult) → k ≡ spelledBy fold used at x → (n : ℕ) → k .answer ≡ Misspelt n → x ≡ bad n
 spelled-bad fold used at (bad m) k q n e = let z : m ≡ n = cc in ap bad z
 spelled-bad fold used at (good d m) k q n e = let z : _≡_ {A = ℕ} 0 1 = cc in absurd (omega arith)
 
-record Spelling′ (fold : Bool) (used at : ℕ) (x : Model.ReadKind) (kind : Kind) (next : ℕ) (set : List ℕ) : Type 0 where
+record KindFound (fold : Bool) (used at : ℕ) (x : Model.ReadKind) (kind : Kind) (next : ℕ) (set : List ℕ) : Type 0 where
   model : Model.Kind
   bytes : ℕ
   is : x ≡ good model bytes
@@ -33,9 +33,9 @@ record Spelling′ (fold : Bool) (used at : ℕ) (x : Model.ReadKind) (kind : Ki
   is-next : next ≡ at + bytes
   is-set : set ≡ setOf fold model
 
-spelled-good : (fold : Bool) (used at : ℕ) (x : Model.ReadKind) (k : Spelled) → k ≡ spelledBy fold used at x → (kind : Kind) (next : ℕ) → k .answer ≡ Spelt kind next → Spelling′ fold used at x kind next (k .set)
+spelled-good : (fold : Bool) (used at : ℕ) (x : Model.ReadKind) (k : KindResult) → k ≡ spelledBy fold used at x → (kind : Kind) (next : ℕ) → k .answer ≡ Spelt kind next → KindFound fold used at x kind next (k .set)
 spelled-good fold used at (bad n) k q kind next e = let z : _≡_ {A = ℕ} 0 1 = cc in absurd (omega arith)
-spelled-good fold used at (good d n) k q kind next e = record { model = d; bytes = n; is = refl; is-kind = (cc); is-next = (cc); is-set = ap (λ (y : Spelled). y .set) q }
+spelled-good fold used at (good d n) k q kind next e = record { model = d; bytes = n; is = refl; is-kind = (cc); is-next = (cc); is-set = ap (λ (y : KindResult). y .set) q }
 
 pub size-same : (used : ℕ) (d : Model.Kind) → sizeOf (kindOf used d) ≡ Model.size d
 size-same used (byte b) = refl
@@ -75,11 +75,11 @@ mark-inside s at d h = elim (decLe (length s) at) [
     at-most repeatable = omega arith
     at-most both = omega arith
 
-module _ (fold : Bool) (used : ℕ) (s : List ℕ) (at : ℕ) (k : Spelled) (rk : ReadsKind fold used s at k) where
-  no-read : (n : ℕ) (r : Read) → r ≡ noElement n → readBy fold used s at (kindAt fold (drop at s)) ≡ noElement n → ReadsElement fold used s at r
+module _ (fold : Bool) (used : ℕ) (s : List ℕ) (at : ℕ) (k : KindResult) (rk : ReadsKind fold used s at k) where
+  no-read : (n : ℕ) (r : ElementResult) → r ≡ noElement n → readBy fold used s at (kindAt fold (drop at s)) ≡ noElement n → ReadsElement fold used s at r
   no-read n r q e = record { is = q ∙ sym e; moves = rw q tt }
 
-  pub element-fault : (n : ℕ) → k .answer ≡ Misspelt n → (r : Read) → r ≡ noElement n → ReadsElement fold used s at r
+  pub element-fault : (n : ℕ) → k .answer ≡ Misspelt n → (r : ElementResult) → r ≡ noElement n → ReadsElement fold used s at r
   element-fault n e r q = no-read n r q (ap (readBy fold used s at) (spelled-bad fold used at (kindAt fold (drop at s)) k (rk .is) n e))
 
   module _ (kind : Kind) (after : ℕ) (e : k .answer ≡ Spelt kind after) where
@@ -90,13 +90,13 @@ module _ (fold : Bool) (used : ℕ) (s : List ℕ) (at : ℕ) (k : Spelled) (rk 
     kind-inside = moved .1
 
     module _ (u : used ≤ positionLimit) (m : ℕ) (em : m ≡ sizeOf kind) where
-      got : Spelling′ fold used at (kindAt fold (drop at s)) kind after (k .set)
+      got : KindFound fold used at (kindAt fold (drop at s)) kind after (k .set)
       got = spelled-good fold used at (kindAt fold (drop at s)) k (rk .is) kind after e
 
       is-size : m ≡ Model.size (got .model)
       is-size = em ∙ ap sizeOf (got .is-kind) ∙ size-same used (got .model)
 
-      pub element-over : positionLimit - used < m → (r : Read) → r ≡ noElement 7 → ReadsElement fold used s at r
+      pub element-over : positionLimit - used < m → (r : ElementResult) → r ≡ noElement 7 → ReadsElement fold used s at r
       element-over o r q = no-read 7 r q (rw (got .is, lt-leb (used + Model.size (got .model)) positionLimit (omega (arith, is-size))))
 
       module _ (o : m ≤ positionLimit - used) (f : Often) (ef : f ≡ oftenBy kind (markAt s after)) (b : ℕ) (eb : b ≡ bytesOf f) where

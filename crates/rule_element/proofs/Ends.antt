@@ -12,10 +12,10 @@ use lib.Seq.{drop-cons, drop-drop}
 use borrow.Author.Tests.{eq-eqb, ne-eqb, le-leb, lt-leb}
 use Rattle.model.specs.RuleText as Model
 use Rattle.model.specs.RuleText.{noEnd, anEnd, closes, misfit, item, faulty, items, endAt, mayEscape, itemAt, itemFrom, rangeFrom, rangeTo, itemsFrom}
-use Rattle.rule_element.specs.declared.End.{End}
-use Rattle.rule_element.specs.declared.End.the-variants.{Byte, Wrong}
-use Rattle.rule_element.specs.declared.Item.{Item}
-use Rattle.rule_element.specs.declared.Item.the-variants.{Wrong as NoItem, Range, Close}
+use Rattle.rule_element.specs.declared.ClassByte.{ClassByte}
+use Rattle.rule_element.specs.declared.ClassByte.the-variants.{Byte, Wrong}
+use Rattle.rule_element.specs.declared.ClassItem.{ClassItem}
+use Rattle.rule_element.specs.declared.ClassItem.the-variants.{Wrong as NoItem, Range, Close}
 use Rattle.rule_element.specs.declared.Close.the-variants.{Wrong as NoClose, At}
 use Rattle.rule_element.specs.declared.Items.{Items}
 use Rattle.byte_set.specs.Sets.{addRanges, addRange, none}
@@ -58,7 +58,7 @@ module _ (s : List ℕ) (at : ℕ) where
   end-past h = record { is = rw (past-end s at h); moves = tt }
 
   module _ (h : at < length s) where
-    pub end-escaped : getD s at 0 ≡ 92 → (r : End) → ReadsEscape s at r → ReadsEnd s at r
+    pub end-escaped : getD s at 0 ≡ 92 → (r : ClassByte) → ReadsEscape s at r → ReadsEnd s at r
     end-escaped b r rc = record { is = rw (drop-cons s at 0 h, eq-eqb _ _ b) (rc .is); moves = rc .moves }
 
     module _ (b : getD s at 0 ≡ 92 → ⊥) where
@@ -94,7 +94,7 @@ module _ (s : List ℕ) (at : ℕ) where
     item-closes b = record { is = rw (drop-cons s at 0 h, eq-eqb _ _ b); moves = (omega arith, omega arith) }
 
     -- the first byte, r
-    module _ (b : getD s at 0 ≡ 93 → ⊥) (r : End) (rc : ReadsEnd s at r) where
+    module _ (b : getD s at 0 ≡ 93 → ⊥) (r : ClassByte) (rc : ReadsEnd s at r) where
       by-end : itemAt (drop at s) ≡ itemFrom (drop at s) (endAt (drop at s))
       by-end = rw (drop-cons s at 0 h, ne-eqb _ _ b)
 
@@ -123,7 +123,7 @@ module _ (s : List ℕ) (at : ℕ) where
               record { is = rw by-low e; moves = (moved .0, moved .1, omega arith) }
 
           -- the upper end, q
-          module _ (d : p ≡ 45) (q : End) (qc : ReadsEnd s (next + 1) q) where
+          module _ (d : p ≡ 45) (q : ClassByte) (qc : ReadsEnd s (next + 1) q) where
             by-high : itemAt (drop at s) ≡ rangeTo lo (low .0) (endAt (drop (next + 1) s))
             by-high = rw (by-low, drop-cons s next 0 (within s next 44 (sym ep ∙ d)), ← ep, eq-eqb _ _ d, add-one)
 
@@ -194,7 +194,7 @@ module _ (s : List ℕ) (from : ℕ) where
   pub reading : Reading s from none from
   reading = record { ahead = omega arith; rest = refl }
 
-  module _ (w : List ℕ) (at : ℕ) (g : Reading s from w at) (i : Item) (ri : ReadsItem s at i) where
+  module _ (w : List ℕ) (at : ℕ) (g : Reading s from w at) (i : ClassItem) (ri : ReadsItem s at i) where
     module _ (lo hi next : ℕ) (e : i ≡ Range lo hi next) where
       pub advanced : (at < next) × (next ≤ length s) × (lo ≤ hi)
       advanced = rw e at (ri .moves)

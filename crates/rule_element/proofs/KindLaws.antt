@@ -12,10 +12,10 @@ use Rattle.model.specs.RuleText as Model
 use Rattle.model.specs.RuleText.{noEnd, anEnd, bad, good, byte, escapedEnd, escapeAt, kindAt, oftenAt}
 use Rattle.rule_element.specs.declared.Kind.{Kind}
 use Rattle.rule_element.specs.declared.Kind.the-variants.{Byte as AByte, Any, Class}
-use Rattle.rule_element.specs.declared.Spelling.the-variants.{Spelt}
-use Rattle.rule_element.specs.declared.Spelled.{Spelled}
-use Rattle.rule_element.specs.declared.End.{End}
-use Rattle.rule_element.specs.declared.End.the-variants.{Byte, Wrong}
+use Rattle.rule_element.specs.declared.KindAnswer.the-variants.{Spelt}
+use Rattle.rule_element.specs.declared.KindResult.{KindResult}
+use Rattle.rule_element.specs.declared.ClassByte.{ClassByte}
+use Rattle.rule_element.specs.declared.ClassByte.the-variants.{Byte, Wrong}
 use Rattle.rule_element.specs.declared.Often.{Often}
 use Rattle.rule_element.specs.declared.Often.the-variants.{Once, Optional, Repeatable, Both}
 use Rattle.byte_set.specs.Sets.{none}
@@ -39,22 +39,22 @@ module _ (fold : Bool) (used : ℕ) (s : List ℕ) (at : ℕ) (h : at < length s
   here : drop at s ≡ c ∷ cs
   here = drop-cons s at 0 h
 
-  no-kind : (n : ℕ) (r : Spelled) → r ≡ misspelt n → kindAt fold (drop at s) ≡ bad n → ReadsKind fold used s at r
+  no-kind : (n : ℕ) (r : KindResult) → r ≡ misspelt n → kindAt fold (drop at s) ≡ bad n → ReadsKind fold used s at r
   no-kind n r q e = record { is = q ∙ sym (ap (spelledBy fold used at) e); moves = rw q tt }
 
   pub kind-any : c ≡ 46 → ReadsKind fold used s at (record { answer = Spelt Any (at + 1); set = none })
   kind-any e = record { is = rw (here, eq-eqb _ _ e); moves = (omega arith, omega arith, tt) }
 
   module _ (n1 : c ≡ 46 → ⊥) where
-    pub kind-class : c ≡ 91 → (r : Spelled) → ReadsBracket fold used s at r → ReadsKind fold used s at r
+    pub kind-class : c ≡ 91 → (r : KindResult) → ReadsBracket fold used s at r → ReadsKind fold used s at r
     kind-class e r rc = record { is = rw (here, ne-eqb _ _ n1, eq-eqb _ _ e) (rc .is); moves = rc .moves }
 
     module _ (n2 : c ≡ 91 → ⊥) where
-      pub kind-gap : c ≡ 123 → (r : Spelled) → ReadsGap s at r → ReadsKind fold used s at r
+      pub kind-gap : c ≡ 123 → (r : KindResult) → ReadsGap s at r → ReadsKind fold used s at r
       kind-gap e r rc = record { is = rw (here, ne-eqb _ _ n1, ne-eqb _ _ n2, eq-eqb _ _ e) (rc .is ∙ gap-same fold used at cs); moves = rc .moves }
 
       module _ (n3 : c ≡ 123 → ⊥) where
-        module _ (e : c ≡ 92) (b : End) (rb : ReadsEscape s at b) where
+        module _ (e : c ≡ 92) (b : ClassByte) (rb : ReadsEscape s at b) where
           -- outside a class an escaped byte is the kind, where inside it is an end
           escape-as : (l : List ℕ) → kindOfEnd (escapedEnd l) ≡ escapeAt l
           escape-as [] = refl
@@ -67,10 +67,10 @@ module _ (fold : Bool) (used : ℕ) (s : List ℕ) (at : ℕ) (h : at < length s
           by-escape : kindAt fold (drop at s) ≡ kindOfEnd (escapedEnd cs)
           by-escape = rw (here, ne-eqb _ _ n1, ne-eqb _ _ n2, ne-eqb _ _ n3, eq-eqb _ _ e) (sym (escape-as cs))
 
-          pub kind-no-escape : b ≡ Wrong → (r : Spelled) → r ≡ misspelt 6 → ReadsKind fold used s at r
+          pub kind-no-escape : b ≡ Wrong → (r : KindResult) → r ≡ misspelt 6 → ReadsKind fold used s at r
           kind-no-escape f r q = no-kind 6 r q (by-escape ∙ ap kindOfEnd (end-missed at (escapedEnd cs) (sym f ∙ rb .is)))
 
-          pub kind-escape : (v next : ℕ) → b ≡ Byte v next → (r : Spelled) → r ≡ plainOf v next → ReadsKind fold used s at r
+          pub kind-escape : (v next : ℕ) → b ≡ Byte v next → (r : KindResult) → r ≡ plainOf v next → ReadsKind fold used s at r
           kind-escape v next f r q =
               let m : (at < next) × (next ≤ length s) = rw f at (rb .moves) in
               let g = end-found at v next (escapedEnd cs) (sym f ∙ rb .is) in
@@ -80,29 +80,29 @@ module _ (fold : Bool) (used : ℕ) (s : List ℕ) (at : ℕ) (h : at < length s
               }
 
         module _ (n4 : c ≡ 92 → ⊥) where
-          pub kind-question : c ≡ 63 → (r : Spelled) → r ≡ misspelt 5 → ReadsKind fold used s at r
+          pub kind-question : c ≡ 63 → (r : KindResult) → r ≡ misspelt 5 → ReadsKind fold used s at r
           kind-question e r q = no-kind 5 r q (rw (here, ne-eqb _ _ n1, ne-eqb _ _ n2, ne-eqb _ _ n3, ne-eqb _ _ n4, eq-eqb _ _ e))
 
           module _ (n5 : c ≡ 63 → ⊥) where
-            pub kind-plus : c ≡ 43 → (r : Spelled) → r ≡ misspelt 5 → ReadsKind fold used s at r
+            pub kind-plus : c ≡ 43 → (r : KindResult) → r ≡ misspelt 5 → ReadsKind fold used s at r
             kind-plus e r q = no-kind 5 r q (rw (here, ne-eqb _ _ n1, ne-eqb _ _ n2, ne-eqb _ _ n3, ne-eqb _ _ n4, ne-eqb _ _ n5, eq-eqb _ _ e))
 
             module _ (n6 : c ≡ 43 → ⊥) where
-              pub kind-star : c ≡ 42 → (r : Spelled) → r ≡ misspelt 5 → ReadsKind fold used s at r
+              pub kind-star : c ≡ 42 → (r : KindResult) → r ≡ misspelt 5 → ReadsKind fold used s at r
               kind-star e r q = no-kind 5 r q (rw (here, ne-eqb _ _ n1, ne-eqb _ _ n2, ne-eqb _ _ n3, ne-eqb _ _ n4, ne-eqb _ _ n5, ne-eqb _ _ n6, eq-eqb _ _ e))
 
               module _ (n7 : c ≡ 42 → ⊥) where
-                pub kind-bracket : c ≡ 93 → (r : Spelled) → r ≡ misspelt 6 → ReadsKind fold used s at r
+                pub kind-bracket : c ≡ 93 → (r : KindResult) → r ≡ misspelt 6 → ReadsKind fold used s at r
                 kind-bracket e r q =
                     no-kind 6 r q (rw (here, ne-eqb _ _ n1, ne-eqb _ _ n2, ne-eqb _ _ n3, ne-eqb _ _ n4, ne-eqb _ _ n5, ne-eqb _ _ n6, ne-eqb _ _ n7, eq-eqb _ _ e))
 
                 module _ (n8 : c ≡ 93 → ⊥) where
-                  pub kind-brace : c ≡ 125 → (r : Spelled) → r ≡ misspelt 6 → ReadsKind fold used s at r
+                  pub kind-brace : c ≡ 125 → (r : KindResult) → r ≡ misspelt 6 → ReadsKind fold used s at r
                   kind-brace e r q =
                       no-kind 6 r q
                       (rw (here, ne-eqb _ _ n1, ne-eqb _ _ n2, ne-eqb _ _ n3, ne-eqb _ _ n4, ne-eqb _ _ n5, ne-eqb _ _ n6, ne-eqb _ _ n7, ne-eqb _ _ n8, eq-eqb _ _ e))
 
-                  pub kind-plain : (c ≡ 125 → ⊥) → (r : Spelled) → r ≡ plainOf c (at + 1) → ReadsKind fold used s at r
+                  pub kind-plain : (c ≡ 125 → ⊥) → (r : KindResult) → r ≡ plainOf c (at + 1) → ReadsKind fold used s at r
                   kind-plain n9 r q =
                       let f : kindAt fold (drop at s) ≡ good (byte c) 1 =
                       rw (here, ne-eqb _ _ n1, ne-eqb _ _ n2, ne-eqb _ _ n3, ne-eqb _ _ n4, ne-eqb _ _ n5, ne-eqb _ _ n6, ne-eqb _ _ n7, ne-eqb _ _ n8, ne-eqb _ _ n9) in

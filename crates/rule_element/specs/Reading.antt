@@ -8,59 +8,59 @@ use lib.ListN.{length, drop}
 use lib.Dec.{leb, ltb}
 use Rattle.model.specs.RuleText as Model
 use Rattle.model.specs.RuleText.{noEnd, anEnd, closes, misfit, item, faulty, items, bad, good, byte, any, class, gap, once, optional, repeatable, both, endAt, escapedEnd, itemAt, itemsFrom, boundAt, classOf, kindAt, oftenAt, oftenAfter, markBytes, positionLimit}
-use Rattle.rule_element.specs.declared.End.{End}
-use Rattle.rule_element.specs.declared.End.the-variants.{Byte, Wrong}
-use Rattle.rule_element.specs.declared.Item.{Item}
-use Rattle.rule_element.specs.declared.Item.the-variants.{Wrong as NoItem, Range, Close}
+use Rattle.rule_element.specs.declared.ClassByte.{ClassByte}
+use Rattle.rule_element.specs.declared.ClassByte.the-variants.{Byte, Wrong}
+use Rattle.rule_element.specs.declared.ClassItem.{ClassItem}
+use Rattle.rule_element.specs.declared.ClassItem.the-variants.{Wrong as NoItem, Range, Close}
 use Rattle.rule_element.specs.declared.Close.the-variants.{Wrong as NoClose, At}
 use Rattle.rule_element.specs.declared.Items.{Items}
 use Rattle.rule_element.specs.declared.Bound.{Bound}
 use Rattle.rule_element.specs.declared.Kind.{Kind}
 use Rattle.rule_element.specs.declared.Kind.the-variants.{Byte as AByte, Any, Class, Gap}
-use Rattle.rule_element.specs.declared.Spelling.{Spelling}
-use Rattle.rule_element.specs.declared.Spelling.the-variants.{Spelt, Misspelt}
-use Rattle.rule_element.specs.declared.Spelled.{Spelled}
+use Rattle.rule_element.specs.declared.KindAnswer.{KindAnswer}
+use Rattle.rule_element.specs.declared.KindAnswer.the-variants.{Spelt, Misspelt}
+use Rattle.rule_element.specs.declared.KindResult.{KindResult}
 use Rattle.rule_element.specs.declared.Element.{Element}
-use Rattle.rule_element.specs.declared.Reading.{Reading}
-use Rattle.rule_element.specs.declared.Reading.the-variants.{Got, Refused}
+use Rattle.rule_element.specs.declared.ElementAnswer.{ElementAnswer}
+use Rattle.rule_element.specs.declared.ElementAnswer.the-variants.{Got, Refused}
 use Rattle.rule_element.specs.declared.Often.{Often}
 use Rattle.rule_element.specs.declared.Often.the-variants.{Once, Optional, Repeatable, Both}
-use Rattle.rule_element.specs.declared.Read.{Read}
+use Rattle.rule_element.specs.declared.ElementResult.{ElementResult}
 use Rattle.rule_element.specs.declared.Close.{Close as Closing}
 use Rattle.byte_set.specs.Sets.{addRanges, none, widen, turn}
 
 -- ---- an end
 
-abbrev pub endOf : ℕ → Model.ReadEnd → End
+abbrev pub endOf : ℕ → Model.ReadEnd → ClassByte
 endOf at noEnd = Wrong
 endOf at (anEnd c n) = Byte c (at + n)
 
-abbrev pub EndMoves : List ℕ → ℕ → End → Type 0
+abbrev pub EndMoves : List ℕ → ℕ → ClassByte → Type 0
 EndMoves s at Wrong = Unit {0}
 EndMoves s at (Byte c next) = (at < next) × (next ≤ length s)
 
-pub record ReadsEnd (s : List ℕ) (at : ℕ) (r : End) : Type 0 where
+pub record ReadsEnd (s : List ℕ) (at : ℕ) (r : ClassByte) : Type 0 where
   pub is : r ≡ endOf at (endAt (drop at s))
   pub moves : EndMoves s at r
 
 -- what stands after the `\` at a place
-pub record ReadsEscape (s : List ℕ) (at : ℕ) (r : End) : Type 0 where
+pub record ReadsEscape (s : List ℕ) (at : ℕ) (r : ClassByte) : Type 0 where
   pub is : r ≡ endOf at (escapedEnd (drop (suc at) s))
   pub moves : EndMoves s at r
 
 -- ---- an item of a class
 
-abbrev pub itemOf : ℕ → Model.Item → Item
+abbrev pub itemOf : ℕ → Model.Item → ClassItem
 itemOf at closes = Close (at + 1)
 itemOf at misfit = NoItem
 itemOf at (item r n) = Range (r .low) (r .high) (at + n)
 
-abbrev pub ItemMoves : List ℕ → ℕ → Item → Type 0
+abbrev pub ItemMoves : List ℕ → ℕ → ClassItem → Type 0
 ItemMoves s at NoItem = Unit {0}
 ItemMoves s at (Close next) = (at < next) × (next ≤ length s)
 ItemMoves s at (Range lo hi next) = (at < next) × (next ≤ length s) × (lo ≤ hi)
 
-pub record ReadsItem (s : List ℕ) (at : ℕ) (r : Item) : Type 0 where
+pub record ReadsItem (s : List ℕ) (at : ℕ) (r : ClassItem) : Type 0 where
   pub is : r ≡ itemOf at (itemAt (drop at s))
   pub moves : ItemMoves s at r
 
@@ -96,10 +96,10 @@ setOf fold any = none
 setOf fold (class t rs) = turn t (widen fold (addRanges none rs))
 setOf fold (gap a b) = none
 
-abbrev pub misspelt : (number : ℕ) → Spelled
+abbrev pub misspelt : (number : ℕ) → KindResult
 misspelt n = record { answer = Misspelt n; set = none }
 
-abbrev pub spelledBy : (fold : Bool) (used at : ℕ) → Model.ReadKind → Spelled
+abbrev pub spelledBy : (fold : Bool) (used at : ℕ) → Model.ReadKind → KindResult
 spelledBy fold used at (bad n) = misspelt n
 spelledBy fold used at (good k n) = record { answer = Spelt (kindOf used k) (at + n); set = setOf fold k }
 
@@ -110,17 +110,17 @@ KindFits Any = Unit {0}
 KindFits (Class n) = Unit {0}
 KindFits (Gap a b) = (a ≤ b) × (1 ≤ b) × (b ≤ 99)
 
-abbrev pub SpellingMoves : List ℕ → (at : ℕ) → Spelling → Type 0
+abbrev pub SpellingMoves : List ℕ → (at : ℕ) → KindAnswer → Type 0
 SpellingMoves s at (Misspelt n) = Unit {0}
 SpellingMoves s at (Spelt k next) = (at < next) × (next ≤ length s) × KindFits k
 
 -- a class from its first item on
-pub record ReadsClass (fold : Bool) (used : ℕ) (turned : Bool) (s : List ℕ) (from : ℕ) (r : Spelled) : Type 0 where
+pub record ReadsClass (fold : Bool) (used : ℕ) (turned : Bool) (s : List ℕ) (from : ℕ) (r : KindResult) : Type 0 where
   pub is : r ≡ spelledBy fold used 0 (classOf fold turned (itemsFrom 0 from (drop from s)))
   pub moves : SpellingMoves s from (r .answer)
 
 -- the class whose `[` stands at a place
-pub record ReadsBracket (fold : Bool) (used : ℕ) (s : List ℕ) (at : ℕ) (r : Spelled) : Type 0 where
+pub record ReadsBracket (fold : Bool) (used : ℕ) (s : List ℕ) (at : ℕ) (r : KindResult) : Type 0 where
   pub is : r ≡ spelledBy fold used at (Model.classAt fold (drop (suc at) s))
   pub moves : SpellingMoves s at (r .answer)
 
@@ -143,16 +143,16 @@ pub record ReadsBound (s : List ℕ) (at : ℕ) (r : Bound) : Type 0 where
   pub near : r .next ≤ at + 2
 
 -- the gap whose `{` stands at a place: neither the fold nor the positions before it change what it is
-pub record ReadsGap (s : List ℕ) (at : ℕ) (r : Spelled) : Type 0 where
+pub record ReadsGap (s : List ℕ) (at : ℕ) (r : KindResult) : Type 0 where
   pub is : r ≡ spelledBy false 0 at (Model.gapAt (drop (suc at) s))
   pub moves : SpellingMoves s at (r .answer)
 
 -- ---- any kind
 
-abbrev pub plainOf : (value next : ℕ) → Spelled
+abbrev pub plainOf : (value next : ℕ) → KindResult
 plainOf c next = record { answer = Spelt (AByte c) next; set = none }
 
-pub record ReadsKind (fold : Bool) (used : ℕ) (s : List ℕ) (at : ℕ) (r : Spelled) : Type 0 where
+pub record ReadsKind (fold : Bool) (used : ℕ) (s : List ℕ) (at : ℕ) (r : KindResult) : Type 0 where
   pub is : r ≡ spelledBy fold used at (kindAt fold (drop at s))
   pub moves : SpellingMoves s at (r .answer)
 
@@ -187,14 +187,14 @@ sizeOf (Gap a b) = b
 
 -- ---- an element
 
-abbrev pub noElement : (number : ℕ) → Read
+abbrev pub noElement : (number : ℕ) → ElementResult
 noElement n = record { answer = Refused n; set = none }
 
 -- an element of the model that was read, n bytes long without its mark
-abbrev pub elementOf : (fold : Bool) (used at : ℕ) → Model.Kind → ℕ → Model.Often → Read
+abbrev pub elementOf : (fold : Bool) (used at : ℕ) → Model.Kind → ℕ → Model.Often → ElementResult
 elementOf fold used at k n o = record { answer = Got (record { kind = kindOf used k; often = oftenOf o }) (at + n + markBytes o); set = setOf fold k }
 
-abbrev pub readBy : (fold : Bool) (used : ℕ) (s : List ℕ) (at : ℕ) → Model.ReadKind → Read
+abbrev pub readBy : (fold : Bool) (used : ℕ) (s : List ℕ) (at : ℕ) → Model.ReadKind → ElementResult
 readBy fold used s at (bad n) = noElement n
 readBy fold used s at (good k n) = cond (leb (used + Model.size k) positionLimit) (elementOf fold used at k n (oftenAfter k (drop (at + n) s))) (noElement 7)
 
@@ -204,10 +204,10 @@ pub record ElementMoves (used : ℕ) (s : List ℕ) (at : ℕ) (e : Element) (ne
   pub fits : KindFits (e .kind)
   pub room : used + sizeOf (e .kind) ≤ positionLimit
 
-abbrev pub ReadingMoves : (used : ℕ) → List ℕ → (at : ℕ) → Reading → Type 0
+abbrev pub ReadingMoves : (used : ℕ) → List ℕ → (at : ℕ) → ElementAnswer → Type 0
 ReadingMoves used s at (Refused n) = Unit {0}
 ReadingMoves used s at (Got e next) = ElementMoves used s at e next
 
-pub record ReadsElement (fold : Bool) (used : ℕ) (s : List ℕ) (at : ℕ) (r : Read) : Type 0 where
+pub record ReadsElement (fold : Bool) (used : ℕ) (s : List ℕ) (at : ℕ) (r : ElementResult) : Type 0 where
   pub is : r ≡ readBy fold used s at (kindAt fold (drop at s))
   pub moves : ReadingMoves used s at (r .answer)

@@ -29,13 +29,13 @@ pub struct Element {
 }
 
 // One end of a range, or a single byte, and the place after it.
-pub enum End {
+pub enum ClassByte {
     Byte(u8, usize),
     Wrong,
 }
 
 // A range (a single byte is one of length 1) or the closing `]`, and the place after it.
-pub enum Item {
+pub enum ClassItem {
     Range(u8, u8, usize),
     Close(usize),
     Wrong,
@@ -59,26 +59,26 @@ pub struct Bound {
 }
 
 // A kind, and the place after it; or the number that refuses it.
-pub enum Spelling {
+pub enum KindAnswer {
     Spelt(Kind, usize),
     Misspelt(u32),
 }
 
 // With the set beside it, if it is a class.
-pub struct Spelled {
-    pub answer: Spelling,
+pub struct KindResult {
+    pub answer: KindAnswer,
     pub set: [u64; 4],
 }
 
 // An element with its mark, and the place after it; or the number that refuses it.
-pub enum Reading {
+pub enum ElementAnswer {
     Got(Element, usize),
     Refused(u32),
 }
 
 // With the set beside it, if it is a class.
-pub struct Read {
-    pub answer: Reading,
+pub struct ElementResult {
+    pub answer: ElementAnswer,
     pub set: [u64; 4],
 }
 
@@ -136,65 +136,65 @@ fn escapable(c: u8) -> bool
 }
 
 // The byte that the `\` at a place gives.
-fn read_escape(rule: &[u8], at: usize) -> End
+fn read_escape(rule: &[u8], at: usize) -> ClassByte
     requires { ⌜ at < length (now rule) ⌝ }
     ensures { λ r. ⌜ ReadsEscape (now (rule .entry)) at r ⌝ }
 {
     let next = at + 1;
     if rule.len() <= next {
-        return End::Wrong;
+        return ClassByte::Wrong;
     }
     let c = rule[next];
     if escapable(c) {
-        return End::Byte(c, next + 1);
+        return ClassByte::Byte(c, next + 1);
     }
-    End::Wrong
+    ClassByte::Wrong
 }
 
 // One end of a range in a class, or a single byte, which may be escaped.
-fn read_end(rule: &[u8], at: usize) -> End
+fn read_end(rule: &[u8], at: usize) -> ClassByte
     ensures { λ r. ⌜ ReadsEnd (now (rule .entry)) at r ⌝ }
 {
     if rule.len() <= at {
-        return End::Wrong;
+        return ClassByte::Wrong;
     }
     let c = rule[at];
     if c == b'\\' {
         return read_escape(rule, at);
     }
     if c == b']' {
-        return End::Wrong;
+        return ClassByte::Wrong;
     }
     if c == b'-' {
-        return End::Wrong;
+        return ClassByte::Wrong;
     }
-    End::Byte(c, at + 1)
+    ClassByte::Byte(c, at + 1)
 }
 
 // What stands next in a class.
-fn read_item(rule: &[u8], at: usize) -> Item
+fn read_item(rule: &[u8], at: usize) -> ClassItem
     ensures { λ r. ⌜ ReadsItem (now (rule .entry)) at r ⌝ }
 {
     if rule.len() <= at {
-        return Item::Wrong;
+        return ClassItem::Wrong;
     }
     if rule[at] == b']' {
-        return Item::Close(at + 1);
+        return ClassItem::Close(at + 1);
     }
-    let End::Byte(lo, next) = read_end(rule, at) else {
-        return Item::Wrong;
+    let ClassByte::Byte(lo, next) = read_end(rule, at) else {
+        return ClassItem::Wrong;
     };
     if peek(rule, next) != b'-' {
-        return Item::Range(lo, lo, next);
+        return ClassItem::Range(lo, lo, next);
     }
     let second = next + 1;
-    let End::Byte(hi, after) = read_end(rule, second) else {
-        return Item::Wrong;
+    let ClassByte::Byte(hi, after) = read_end(rule, second) else {
+        return ClassItem::Wrong;
     };
     if hi < lo {
-        return Item::Wrong;
+        return ClassItem::Wrong;
     }
-    Item::Range(lo, hi, after)
+    ClassItem::Range(lo, hi, after)
 }
 
 // The items of a class from a place on, up to its `]`: their ranges are added to the set as they are read.
@@ -206,18 +206,18 @@ fn read_items(rule: &[u8], from: usize) -> Items
     loop {
         let item = read_item(rule, at);
         match item {
-            Item::Range(lo, hi, next) => {
+            ClassItem::Range(lo, hi, next) => {
                 let t = byte_set::add_range(set, lo, hi);
                 set = t;
                 at = next;
             }
-            Item::Close(next) => {
+            ClassItem::Close(next) => {
                 return Items {
                     set: set,
                     close: Close::At(next),
                 };
             }
-            Item::Wrong => {
+            ClassItem::Wrong => {
                 return Items {
                     set: [0u64; 4],
                     close: Close::Wrong,
@@ -228,40 +228,40 @@ fn read_items(rule: &[u8], from: usize) -> Items
 }
 
 // No kind is spelt: the number of the refusal.
-fn fault(number: u32) -> Spelled
+fn refuse_kind(number: u32) -> KindResult
     ensures { λ r. ⌜ r ≡ misspelt number ⌝ }
 {
-    Spelled {
-        answer: Spelling::Misspelt(number),
+    KindResult {
+        answer: KindAnswer::Misspelt(number),
         set: [0u64; 4],
     }
 }
 
 // A class from its first item on: its ranges, widened, then turned round. `used` positions stand before it.
-fn class_from(rule: &[u8], from: usize, fold: bool, turned: bool, used: u32) -> Spelled
+fn class_from(rule: &[u8], from: usize, fold: bool, turned: bool, used: u32) -> KindResult
     ensures { λ r. ⌜ ReadsClass fold used turned (now (rule .entry)) from r ⌝ }
 {
     if peek(rule, from) == b']' {
-        return fault(3);
+        return refuse_kind(3);
     }
     let all = read_items(rule, from);
     let close = all.close;
     let Close::At(next) = close else {
-        return fault(3);
+        return refuse_kind(3);
     };
     let ranges = all.set;
     let set = byte_set::class_set(ranges, fold, turned);
     if byte_set::is_empty(set) {
-        return fault(3);
+        return refuse_kind(3);
     }
-    Spelled {
-        answer: Spelling::Spelt(Kind::Class(used), next),
+    KindResult {
+        answer: KindAnswer::Spelt(Kind::Class(used), next),
         set: set,
     }
 }
 
 // The class whose `[` stands at a place.
-fn read_class(rule: &[u8], at: usize, fold: bool, used: u32) -> Spelled
+fn read_class(rule: &[u8], at: usize, fold: bool, used: u32) -> KindResult
     requires { ⌜ at < length (now rule) ⌝ }
     ensures { λ r. ⌜ ReadsBracket fold used (now (rule .entry)) at r ⌝ }
 {
@@ -310,7 +310,7 @@ fn read_bound(rule: &[u8], at: usize) -> Bound
 }
 
 // The gap whose `{` stands at a place.
-fn read_gap(rule: &[u8], at: usize) -> Spelled
+fn read_gap(rule: &[u8], at: usize) -> KindResult
     requires { ⌜ at < length (now rule) ⌝ }
     ensures { λ r. ⌜ ReadsGap (now (rule .entry)) at r ⌝ }
 {
@@ -318,53 +318,53 @@ fn read_gap(rule: &[u8], at: usize) -> Spelled
     let a = read_bound(rule, first);
     let comma = a.next;
     if comma == first {
-        return fault(4);
+        return refuse_kind(4);
     }
     if peek(rule, comma) != b',' {
-        return fault(4);
+        return refuse_kind(4);
     }
     let second = comma + 1;
     let b = read_bound(rule, second);
     let brace = b.next;
     if brace == second {
-        return fault(4);
+        return refuse_kind(4);
     }
     if peek(rule, brace) != b'}' {
-        return fault(4);
+        return refuse_kind(4);
     }
     if b.value < a.value {
-        return fault(4);
+        return refuse_kind(4);
     }
     if b.value == 0 {
-        return fault(4);
+        return refuse_kind(4);
     }
     let next = brace + 1;
-    Spelled {
-        answer: Spelling::Spelt(Kind::Gap(a.value, b.value), next),
+    KindResult {
+        answer: KindAnswer::Spelt(Kind::Gap(a.value, b.value), next),
         set: [0u64; 4],
     }
 }
 
 // A byte that stands for itself.
-fn plain(c: u8, next: usize) -> Spelled
+fn plain(c: u8, next: usize) -> KindResult
     ensures { λ r. ⌜ r ≡ plainOf c next ⌝ }
 {
-    Spelled {
-        answer: Spelling::Spelt(Kind::Byte(c), next),
+    KindResult {
+        answer: KindAnswer::Spelt(Kind::Byte(c), next),
         set: [0u64; 4],
     }
 }
 
 // Any element but its mark of how often. `used` positions stand before it.
-fn read_kind(rule: &[u8], at: usize, fold: bool, used: u32) -> Spelled
+fn read_kind(rule: &[u8], at: usize, fold: bool, used: u32) -> KindResult
     requires { ⌜ at < length (now rule) ⌝ }
     ensures { λ r. ⌜ ReadsKind fold used (now (rule .entry)) at r ⌝ }
 {
     let c = rule[at];
     let next = at + 1;
     if c == b'.' {
-        return Spelled {
-            answer: Spelling::Spelt(Kind::Any, next),
+        return KindResult {
+            answer: KindAnswer::Spelt(Kind::Any, next),
             set: [0u64; 4],
         };
     }
@@ -375,25 +375,25 @@ fn read_kind(rule: &[u8], at: usize, fold: bool, used: u32) -> Spelled
         return read_gap(rule, at);
     }
     if c == b'\\' {
-        let End::Byte(b, after) = read_escape(rule, at) else {
-            return fault(6);
+        let ClassByte::Byte(b, after) = read_escape(rule, at) else {
+            return refuse_kind(6);
         };
         return plain(b, after);
     }
     if c == b'?' {
-        return fault(5);
+        return refuse_kind(5);
     }
     if c == b'+' {
-        return fault(5);
+        return refuse_kind(5);
     }
     if c == b'*' {
-        return fault(5);
+        return refuse_kind(5);
     }
     if c == b']' {
-        return fault(6);
+        return refuse_kind(6);
     }
     if c == b'}' {
-        return fault(6);
+        return refuse_kind(6);
     }
     plain(c, next)
 }
@@ -452,18 +452,18 @@ pub fn size(kind: Kind) -> u32
 }
 
 // No element was read: the number of the refusal.
-fn no_element(number: u32) -> Read
+fn no_element(number: u32) -> ElementResult
     ensures { λ r. ⌜ r ≡ noElement number ⌝ }
 {
-    Read {
-        answer: Reading::Refused(number),
+    ElementResult {
+        answer: ElementAnswer::Refused(number),
         set: [0u64; 4],
     }
 }
 
 // One element with its mark. `used` positions stand before it; its own fault comes before that it
 // takes them past the limit.
-pub fn read_element(rule: &[u8], at: usize, fold: bool, used: u32) -> Read
+pub fn read_element(rule: &[u8], at: usize, fold: bool, used: u32) -> ElementResult
     requires { ⌜ at < length (now rule) ⌝ }
     requires { ⌜ used ≤ positionLimit ⌝ }
     ensures { λ r. ⌜ ReadsElement fold used (now (rule .entry)) at r ⌝ }
@@ -472,17 +472,17 @@ pub fn read_element(rule: &[u8], at: usize, fold: bool, used: u32) -> Read
     let set = k.set;
     let answer = k.answer;
     match answer {
-        Spelling::Misspelt(number) => {
+        KindAnswer::Misspelt(number) => {
             return no_element(number);
         }
-        Spelling::Spelt(kind, after) => {
+        KindAnswer::Spelt(kind, after) => {
             if POSITION_LIMIT - used < size(kind) {
                 return no_element(7);
             }
             let often = read_often(rule, kind, after);
             let next = after + mark_bytes(often);
-            return Read {
-                answer: Reading::Got(
+            return ElementResult {
+                answer: ElementAnswer::Got(
                     Element {
                         kind: kind,
                         often: often,

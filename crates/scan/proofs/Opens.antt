@@ -12,10 +12,10 @@ use Rattle.model.specs.RuleText.{foldFlag, positions}
 use Rattle.model.specs.NumberedAnswers.{positionsBy, rulePositions}
 use Rattle.model.specs.References.{formLimit, heldMost}
 use Rattle.shift_and.specs.ForwardStep.{opening}
-use Rattle.rule_compiler.specs.declared.Prepared.{Prepared}
-use Rattle.rule_compiler.specs.Preparing.{answerOf, Prepares}
-use Rattle.rule_compiler.specs.Tables.{tableOf, Fillable, Filled}
-use Rattle.rule_compiler.proofs.Encoded.{is-refused, is-accepted, is-answer, may-fill}
+use Rattle.rule_parser.specs.declared.Prepared.{Prepared}
+use Rattle.rule_parser.specs.Preparing.{answerOf, Prepares}
+use Rattle.rule_table.specs.Tables.{tableOf, Fillable, Filled}
+use Rattle.rule_table.proofs.Encoded.{is-refused, is-accepted, is-answer, may-fill}
 use Rattle.scan_value.specs.Value.{scanLength, slots, written}
 use Rattle.scan_value.proofs.Readback.{written-keeps, as-list}
 use Rattle.scan.specs.Opening.{begun, openingOf, OpenIs}

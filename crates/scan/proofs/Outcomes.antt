@@ -11,10 +11,10 @@ use lib.Seq.{sets-eq, length-take-le}
 use borrow.Author.Tests.{eq-eqb, ne-eqb}
 use Rattle.model.specs.NumberedAnswers.{overwrite}
 use Rattle.model.specs.PlainScan.{Call, feed, finish, pieceOf, listOf}
-use Rattle.reference_decoder.specs.declared.Answer.{Answer}
-use Rattle.reference_decoder.specs.declared.Held.{Held}
-use Rattle.reference_decoder.specs.Decoder.{refusing, counting}
-use Rattle.reference_decoder.specs.Crosses.{heldOf, HeldFine}
+use Rattle.decoder.specs.declared.Answer.{Answer}
+use Rattle.piece_decoder.specs.declared.held.Held.{Held}
+use Rattle.decoder.specs.Decoder.{refusing, counting}
+use Rattle.piece_decoder.specs.Held.{heldOf, HeldFine}
 use Rattle.shift_and_step.specs.declared.Masks.{Masks}
 use Rattle.scan_piece.specs.declared.State.{State}
 use Rattle.scan_piece.specs.declared.Fed.{Fed}

@@ -23,9 +23,9 @@ use Rattle.model.proofs.Scans.{Scanner, opened, through, finishes, moved, scann
 use Rattle.shift_and.specs.ForwardStep.{onByte, topBit, opening}
 use Rattle.shift_and.specs.Masks.{repeatsMask, optionalMask, Encodes}
 use Rattle.shift_and.proofs.Bridge.{words-are-plain}
-use Rattle.rule_compiler.specs.Tables.{tableOf}
-use Rattle.rule_compiler.proofs.FillLaws.{long-entries}
-use Rattle.rule_compiler.proofs.Encoded.{table-entry}
+use Rattle.rule_table.specs.Tables.{tableOf}
+use Rattle.rule_table.proofs.FillLaws.{long-entries}
+use Rattle.rule_table.proofs.Encoded.{table-entry}
 use Rattle.shift_and_step.specs.declared.Masks.{Masks}
 use Rattle.shift_and_step.specs.Stepping.{stepN, stateAfter, endsIn}
 use Rattle.scan_piece.specs.Feeding.{textOf, tailOf}

@@ -11,8 +11,8 @@ use Rattle.model.specs.RuleText.{isByte}
 use Rattle.model.specs.NumberedAnswers.{overwrite}
 use Rattle.model.specs.PlainScan as Plain
 use Rattle.model.specs.PlainScan.{Call, feed, finish, pieceOf, listOf}
-use Rattle.reference_decoder.specs.declared.Answer.{Answer}
-use Rattle.reference_decoder.specs.Decoder.{refusing, counting}
+use Rattle.decoder.specs.declared.Answer.{Answer}
+use Rattle.decoder.specs.Decoder.{refusing, counting}
 use Rattle.shift_and_step.specs.Stepping.{stateAfter, endsIn}
 use Rattle.scan_piece.specs.declared.State.{State}
 use Rattle.scan_piece.specs.Feeding.{textOf, tailOf}

@@ -12,8 +12,8 @@ use Rattle.model.specs.NumberedAnswers.{Parsed, refused, accepted, parse}
 use Rattle.model.specs.References.{formLimit, heldMost}
 use Rattle.shift_and.specs.ForwardStep.{opening}
 use Rattle.shift_and.specs.Masks.{optionalMask, repeatsMask}
-use Rattle.rule_compiler.specs.declared.Prepared.{Prepared}
-use Rattle.rule_compiler.specs.Tables.{tableOf}
+use Rattle.rule_parser.specs.declared.Prepared.{Prepared}
+use Rattle.rule_table.specs.Tables.{tableOf}
 use Rattle.scan_value.specs.Value.{scanLength, slots, written}
 use Rattle.scan.specs.declared.Opened.{Opened}
 

@@ -1,13 +1,14 @@
 // The forward scan: open, feed, finish, over a lent scan value.
 ghost use mathlib.Core.Path.{_≡_};
 ghost use lib.ListN.{length};
-ghost use Rattle.reference_decoder.specs.Decoder.{refusing};
+ghost use Rattle.decoder.specs.Decoder.{refusing};
 ghost use Rattle.scan_value.specs.Value.{scanLength, Possible, Fine};
 ghost use Rattle.scan.specs.Calls.{startOf, FeedTaken, FinishTaken, FeedIs, FinishIs};
 ghost use Rattle.scan.specs.Opening.{begun, OpenIs};
-use reference_decoder::Answer;
-use reference_decoder::Held;
-use rule_compiler::Prepared;
+use decoder::Answer;
+use piece_decoder::held::Held;
+use reference_reader::FORM_LIMIT;
+use rule_parser::Prepared;
 use scan_piece::State;
 
 // What preparing a rule, or an opening, answers.
@@ -29,7 +30,7 @@ fn begin(scan: &mut [u64], p: Prepared)
     scan[scan_value::POSITIONS] = p.positions as u64;
     let d = shift_and::opening(p.optional);
     let none = Held {
-        bytes: [0u8; 10],
+        bytes: [0u8; FORM_LIMIT],
         len: 0,
     };
     scan_value::put(scan, d, 0, 0, 0, none);
@@ -39,7 +40,7 @@ fn begin(scan: &mut [u64], p: Prepared)
 pub fn open(rule: &[u8], fold: u32, scan: &mut [u64]) -> Opened
     ensures { λ r. ⌜ OpenIs fold (now (rule .entry)) (now (scan .entry)) r (now (scan .exit)) ⌝ }
 {
-    let p = rule_compiler::prepare(rule, fold);
+    let p = rule_parser::prepare(rule, fold);
     if p.number != 0 {
         return Opened {
             number: p.number,
@@ -56,7 +57,7 @@ pub fn open(rule: &[u8], fold: u32, scan: &mut [u64]) -> Opened
             shortest: 0,
         };
     }
-    rule_compiler::tables::fill(rule, fold, p.positions, &mut scan[..256], false);
+    rule_table::fill(rule, fold, p.positions, &mut scan[..256], false);
     begin(scan, p);
     Opened {
         number: 0,
@@ -116,7 +117,7 @@ fn finish_accepted(scan: &mut [u64], ends: &mut [u32]) -> Answer
     let n = h.len;
     let u = scan_piece::through(&scan[..256], masks, g, &b[..n], ends);
     let none = Held {
-        bytes: [0u8; 10],
+        bytes: [0u8; FORM_LIMIT],
         len: 0,
     };
     scan_value::put(scan, u.d, 1, raw, u.at as u64, none);

@@ -8,11 +8,11 @@ use lib.Seq.{take-all}
 use borrow.Rule.Slice.PartMut.{midOf}
 use Rattle.model.specs.References.{formLimit, heldMost, utf8}
 use Rattle.model.proofs.Decoding.{held-length}
-use Rattle.reference_decoder.specs.Reader.{codeLimit}
-use Rattle.reference_decoder.specs.declared.Held.{Held}
-use Rattle.reference_decoder.specs.declared.Across.the-variants.{Completed, Passed, Growing}
-use Rattle.reference_decoder.specs.declared.Crossing.{Crossing}
-use Rattle.reference_decoder.specs.Crosses.{heldOf, JoinIs, CompletedIs, PassedIs, GrowingIs, CrossIs}
+use Rattle.reference_reader.specs.Reader.{codeLimit}
+use Rattle.piece_decoder.specs.declared.held.Held.{Held}
+use Rattle.piece_decoder.specs.declared.held.HeldOutcome.the-variants.{Completed, Literal, Pending}
+use Rattle.piece_decoder.specs.declared.held.Resolved.{Resolved}
+use Rattle.piece_decoder.specs.Held.{heldOf, TopUpIs, CompletedIs, PassedIs, GrowingIs, ResolvedIs}
 use Rattle.shift_and_step.specs.declared.Masks.{Masks}
 use Rattle.scan_piece.specs.declared.State.{State}
 use Rattle.scan_piece.specs.declared.Rest.{Rest}
@@ -32,7 +32,7 @@ held-few h = omega (arith, length-take (h .len) (h .bytes))
 
 module _ (t : List ℕ) (m : Masks) (g : State) (piece : List ℕ) (from : ℕ) (ends : List ℕ) where
   pub rest-fed : (r : Rest) (ends′ : List ℕ) → RestIs t m g piece from ends r ends′
-      → (blank : List ℕ) (j : Held) → JoinIs (record { bytes = blank; len = 0 }) (midOf (r .kept) (length piece - r .kept) piece) j
+      → (blank : List ℕ) (j : Held) → TopUpIs (record { bytes = blank; len = 0 }) (midOf (r .kept) (length piece - r .kept) piece) j
       → RestFed t m g piece from ends (record { state = r .state; held = j }) ends′
   rest-fed r ends′ w blank j y =
       let fits = w .fits in
@@ -51,7 +51,7 @@ module _ (t : List ℕ) (m : Masks) (g : State) (piece : List ℕ) (from : ℕ) 
 
 -- ---- `feed_bytes`
 
-module _ (h : Held) (piece : List ℕ) (x : Crossing) (cr : CrossIs h piece x) where
+module _ (h : Held) (piece : List ℕ) (x : Resolved) (cr : ResolvedIs h piece x) where
   h-long : length (heldOf h) ≡ h .len
   h-long = cr .joins .held
 
@@ -65,7 +65,7 @@ module _ (h : Held) (piece : List ℕ) (x : Crossing) (cr : CrossIs h piece x) w
     pub code-fits : (code < codeLimit) × (length (utf8 code) ≤ h .len + taken) × (taken ≤ length piece)
     code-fits = let c = completed in (c .small, (let f = c .few in omega (arith, h-long)), c .fits)
 
-module _ (t : List ℕ) (m : Masks) (g : State) (h : Held) (piece ends : List ℕ) (x : Crossing) (cr : CrossIs h piece x) where
+module _ (t : List ℕ) (m : Masks) (g : State) (h : Held) (piece ends : List ℕ) (x : Resolved) (cr : ResolvedIs h piece x) where
   module _ (code taken : ℕ) (e : x .case ≡ Completed code taken) where
     pub fed-completed : (s : State) (ends₁ : List ℕ) → Stepped t m g (utf8 code) ends s ends₁ → (r : Fed) (ends′ : List ℕ) → RestFed t m s piece taken ends₁ r ends′ → FedIs t m g h piece ends r ends′
     unfolding textOf tailOf
@@ -81,13 +81,13 @@ module _ (t : List ℕ) (m : Masks) (g : State) (h : Held) (piece ends : List �
           few = omega (arith, ap length (c .lets-out), length-append (utf8 code) (textOf (drop taken piece)), h-long h piece x cr);
         }
 
-  module _ (e : x .case ≡ Passed) where
+  module _ (e : x .case ≡ Literal) where
     passed : PassedIs (heldOf h) piece
     passed = rw e at (cr .is)
 
-    pub fed-passed : (s : State) (ends₁ : List ℕ) → Stepped t m g (heldOf h) ends s ends₁ → (r : Fed) (ends′ : List ℕ) → RestFed t m s piece 0 ends₁ r ends′ → FedIs t m g h piece ends r ends′
+    pub fed-literal : (s : State) (ends₁ : List ℕ) → Stepped t m g (heldOf h) ends s ends₁ → (r : Fed) (ends′ : List ℕ) → RestFed t m s piece 0 ends₁ r ends′ → FedIs t m g h piece ends r ends′
     unfolding textOf tailOf
-    fed-passed s ends₁ a r ends′ w =
+    fed-literal s ends₁ a r ends′ w =
         let c = passed in
         let q = w .few in
         record {
@@ -98,13 +98,13 @@ module _ (t : List ℕ) (m : Masks) (g : State) (h : Held) (piece ends : List �
           few = omega (arith, ap length (c .lets-out), length-append (heldOf h) (textOf piece), h-long h piece x cr);
         }
 
-  module _ (e : x .case ≡ Growing) where
+  module _ (e : x .case ≡ Pending) where
     growing : GrowingIs (heldOf h) piece (x .joined)
     growing = rw e at (cr .is)
 
-    pub fed-growing : FedIs t m g h piece ends (record { state = g; held = x .joined }) ends
+    pub fed-pending : FedIs t m g h piece ends (record { state = g; held = x .joined }) ends
     unfolding textOf tailOf
-    fed-growing =
+    fed-pending =
         let c = growing in
         let j = cr .joins in
         let z : x .joined .len ≡ length (heldOf h ++ piece) = j .size ∙ ap length (c .is) in

@@ -11,8 +11,8 @@ use borrow.Rule.Slice.PartMut.{midOf}
 use borrow.Author.Tests.{leb-true, ltb-false}
 use Rattle.model.specs.References.{formLimit, utf8, heldTail, letOut}
 use Rattle.model.proofs.Decoding.{utf8-four, held-cut, text-cut, held-length}
-use Rattle.reference_decoder.specs.Decoder.{Put}
-use Rattle.reference_decoder.proofs.Cuts.{all-held}
+use Rattle.reference_reader.specs.Utf8.{Put}
+use Rattle.model.proofs.Cuts.{all-held}
 use Rattle.reference_search.specs.Amps.{Verbatim}
 use Rattle.piece_decoder.specs.declared.Filled.{Filled}
 use Rattle.piece_decoder.specs.Filling.{FilledIs}

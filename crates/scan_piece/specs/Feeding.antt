@@ -8,8 +8,8 @@ use lib.Seq.{sets}
 use Rattle.model.specs.References.{formLimit, heldMost, heldTail, letOut}
 use Rattle.shift_and_step.specs.declared.Masks.{Masks}
 use Rattle.shift_and_step.specs.Stepping.{stateAfter, endsIn}
-use Rattle.reference_decoder.specs.declared.Held.{Held}
-use Rattle.reference_decoder.specs.Crosses.{heldOf}
+use Rattle.piece_decoder.specs.declared.held.Held.{Held}
+use Rattle.piece_decoder.specs.Held.{heldOf}
 use Rattle.scan_piece.specs.declared.State.{State}
 use Rattle.scan_piece.specs.declared.Next.{Next}
 use Rattle.scan_piece.specs.declared.Rest.{Rest}

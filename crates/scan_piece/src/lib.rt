@@ -6,12 +6,13 @@ ghost use Prim.Native.Nat.{_+_, _<_, _≤_, _^_};
 ghost use lib.ListN.{length};
 ghost use Rattle.model.specs.References.{utf8};
 ghost use Rattle.prefilter.specs.Plans.{Planned};
-ghost use Rattle.reference_decoder.specs.Reader.{codeLimit};
-ghost use Rattle.reference_decoder.specs.Crosses.{HeldFine};
+ghost use Rattle.reference_reader.specs.Reader.{codeLimit};
+ghost use Rattle.piece_decoder.specs.Held.{HeldFine};
 ghost use Rattle.scan_piece.specs.Feeding.{Stepped, PartEnd, TokenIs, RestIs, RestFed, FedIs};
+use piece_decoder::held::Held;
+use piece_decoder::held::HeldOutcome;
 use prefilter::Plan;
-use reference_decoder::Across;
-use reference_decoder::Held;
+use reference_reader::FORM_LIMIT;
 use shift_and_step::Masks;
 
 // Where a call stands: the states, the count of decoded bytes, and the count of ends that it has stored.
@@ -78,7 +79,7 @@ fn code_through(
     ensures { λ r. ⌜ Stepped (now (table .entry)) masks g (utf8 code) (now (ends .entry)) r (now (ends .exit)) ⌝ }
 {
     let mut t = [0u8; 4];
-    let n = reference_decoder::put_utf8(&mut t, code);
+    let n = reference_reader::put_utf8(&mut t, code);
     run_through(table, masks, plan, g, &t[..n], ends)
 }
 
@@ -259,10 +260,10 @@ fn feed_rest(
     let u = r.state;
     let kept = r.kept;
     let none = Held {
-        bytes: [0u8; 10],
+        bytes: [0u8; FORM_LIMIT],
         len: 0,
     };
-    let j = reference_decoder::join(none, &piece[kept..]);
+    let j = piece_decoder::held::top_up(none, &piece[kept..]);
     Fed { state: u, held: j }
 }
 
@@ -284,20 +285,20 @@ pub fn feed_bytes(
     ensures { λ r. ⌜ FedIs (now (table .entry)) masks g h (now (piece .entry)) (now (ends .entry)) r (now (ends .exit)) ⌝ }
 {
     let plan = prefilter::plan_of(table, masks.repeats, masks.optional, masks.top, piece.len());
-    let x = reference_decoder::cross(h, piece);
+    let x = piece_decoder::held::resolve_held(h, piece);
     let case = x.case;
     match case {
-        Across::Completed(code, taken) => {
+        HeldOutcome::Completed(code, taken) => {
             let s = code_through(table, masks, plan, g, code, ends);
             return feed_rest(table, masks, plan, s, piece, taken, ends);
         }
-        Across::Passed => {
+        HeldOutcome::Literal => {
             let b = h.bytes;
             let l = h.len;
             let s = run_through(table, masks, plan, g, &b[..l], ends);
             return feed_rest(table, masks, plan, s, piece, 0, ends);
         }
-        Across::Growing => {
+        HeldOutcome::Pending => {
             let j = x.joined;
             return Fed { state: g, held: j };
         }

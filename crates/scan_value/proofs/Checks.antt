@@ -15,13 +15,13 @@ use Rattle.model.specs.References.{formLimit, heldMost, canGrow, heldTail}
 use Rattle.model.proofs.Truth.{T-false}
 use Rattle.model.proofs.Forms.{not-none}
 use Rattle.model.proofs.Borders.{ref-growing}
-use Rattle.reference_decoder.specs.declared.Reference.{Reference}
-use Rattle.reference_decoder.specs.declared.Reference.the-variants.{Code, Plain, Open}
-use Rattle.reference_decoder.specs.declared.Held.{Held}
-use Rattle.reference_decoder.specs.Reader.{ReadIs}
-use Rattle.reference_decoder.specs.Crosses.{heldOf}
-use Rattle.reference_decoder.proofs.Cuts.{held-open}
-use Rattle.reference_decoder.proofs.Readings.{code-told, plain-told, open-told}
+use Rattle.reference_reader.specs.declared.Reference.{Reference}
+use Rattle.reference_reader.specs.declared.Reference.the-variants.{Decoded, Literal, Incomplete}
+use Rattle.piece_decoder.specs.declared.held.Held.{Held}
+use Rattle.reference_reader.specs.Reader.{ReadIs}
+use Rattle.piece_decoder.specs.Held.{heldOf}
+use Rattle.model.proofs.Cuts.{held-open}
+use Rattle.reference_reader.proofs.Readings.{decoded-told, literal-told, incomplete-told}
 use Rattle.scan_value.specs.Value.{scanLength, positionsIn, finishedIn, rawIn, decodedIn, heldCountIn, heldIn, isTail, bytesFrom, possible, PossibleIs, BytesFit, LoadFine, LoadIs, HeldFits, numberFor, RefusedIs}
 
 -- ---- `bytes_fit`
@@ -88,16 +88,16 @@ module _ (h : Held) where
     tested : isTail (heldOf h) ≡ canGrow formLimit (heldOf h)
     tested = not-empty (heldOf h) (λ e. some (sym (length-take-le (h .len) (h .bytes) (omega (arith, f .long, f .few))) ∙ e))
 
-    pub tail-code : (code k : ℕ) → r ≡ Code code k → false ≡ isTail (heldOf h)
-    tail-code code k e =
-        let g = code-told formLimit (heldOf h) code k (sym e ∙ x .is) in
+    pub tail-decoded : (code k : ℕ) → r ≡ Decoded code k → false ≡ isTail (heldOf h)
+    tail-decoded code k e =
+        let g = decoded-told formLimit (heldOf h) code k (sym e ∙ x .is) in
         sym (tested ∙ T-false (canGrow formLimit (heldOf h)) (λ t. not-none (sym (ref-growing formLimit (heldOf h) t) ∙ g)))
 
-    pub tail-plain : r ≡ Plain → false ≡ isTail (heldOf h)
-    tail-plain e = sym (tested ∙ plain-told formLimit (heldOf h) (sym e ∙ x .is) .1)
+    pub tail-literal : r ≡ Literal → false ≡ isTail (heldOf h)
+    tail-literal e = sym (tested ∙ literal-told formLimit (heldOf h) (sym e ∙ x .is) .1)
 
-    pub tail-open : r ≡ Open → true ≡ isTail (heldOf h)
-    tail-open e = sym (tested ∙ open-told formLimit (heldOf h) (sym e ∙ x .is) .1)
+    pub tail-incomplete : r ≡ Incomplete → true ≡ isTail (heldOf h)
+    tail-incomplete e = sym (tested ∙ incomplete-told formLimit (heldOf h) (sym e ∙ x .is) .1)
 
 -- ---- `possible`, `refused`: a law for each rung
 

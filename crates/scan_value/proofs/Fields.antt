@@ -7,8 +7,8 @@ use native.Mathlib.Decide.{decLt}
 use native.Mathlib.Omega.{arith}
 use lib.ListN.{length, take, drop, getD, set, length-set, length-drop, drop-of-length-le, List·getD-eq-default}
 use lib.Seq.{sets, length-sets, drop-cons, take-suc, take-suc-set, getD-drop, getD-take, length-take-le}
-use Rattle.reference_decoder.specs.declared.Held.{Held}
-use Rattle.reference_decoder.specs.Crosses.{heldOf}
+use Rattle.piece_decoder.specs.declared.held.Held.{Held}
+use Rattle.piece_decoder.specs.Held.{heldOf}
 use Rattle.scan_value.specs.Value.{heldCountIn, LoadFine, LoadIs, HeldFits, slots, written}
 
 -- ---- `load`

@@ -10,7 +10,7 @@ use borrow.Author.Tests.{eq-eqb, le-leb}
 use Rattle.model.specs.RuleText.{positionLimit}
 use Rattle.model.specs.NumberedAnswers.{textLimit}
 use Rattle.model.specs.References.{formLimit, heldMost, heldTail}
-use Rattle.reference_decoder.proofs.Cuts.{held-grows}
+use Rattle.model.proofs.Cuts.{held-grows}
 use Rattle.scan_value.specs.Value.{scanLength, heldAt, tableIn, positionsIn, masksIn, stateIn, finishedIn, rawIn, decodedIn, heldCountIn, heldIn, isTail, bytesFrom, possible, slots, written}
 
 slots-long : (n : ℕ) (h : List ℕ) → length (slots n h) ≡ n

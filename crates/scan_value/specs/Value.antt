@@ -12,8 +12,8 @@ use Rattle.model.specs.NumberedAnswers.{textLimit}
 use Rattle.model.specs.References.{formLimit, heldMost, heldTail, canGrow}
 use Rattle.model.specs.PlainScan.{refusalFor}
 use Rattle.shift_and_step.specs.declared.Masks.{Masks}
-use Rattle.reference_decoder.specs.declared.Held.{Held}
-use Rattle.reference_decoder.specs.Crosses.{heldOf}
+use Rattle.piece_decoder.specs.declared.held.Held.{Held}
+use Rattle.piece_decoder.specs.Held.{heldOf}
 
 -- ---- how it is read
 

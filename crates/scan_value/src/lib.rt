@@ -5,10 +5,11 @@ ghost use Prim.Native.Nat.{_<_, _^_};
 ghost use lib.ListN.{length, getD};
 ghost use lib.Seq.{sets};
 ghost use Rattle.model.specs.References.{formLimit, heldMost};
-ghost use Rattle.reference_decoder.specs.Crosses.{heldOf};
+ghost use Rattle.piece_decoder.specs.Held.{heldOf};
 ghost use Rattle.scan_value.specs.Value.{scanLength, heldAt, masksIn, isTail, BytesFit, LoadFine, LoadIs, PossibleIs, RefusedIs, HeldFits, slots, written};
-use reference_decoder::Held;
-use reference_decoder::Reference;
+use piece_decoder::held::Held;
+use reference_reader::FORM_LIMIT;
+use reference_reader::Reference;
 use shift_and_step::Masks;
 
 // The rule's part: the table from 0 on, and these.
@@ -32,7 +33,8 @@ pub const HELD_BYTES: usize = 264;
 
 pub const LENGTH: usize = 273;
 
-const HELD_MOST: usize = 9;
+// One byte less than a form has at most.
+const HELD_MOST: usize = FORM_LIMIT - 1;
 
 const POSITION_LIMIT: u64 = 63;
 
@@ -71,7 +73,7 @@ pub fn load(scan: &[u64]) -> Held
     ensures { λ r. ⌜ LoadIs (now (scan .entry)) r ⌝ }
 {
     let n = scan[HELD] as usize;
-    let mut t = [0u8; 10];
+    let mut t = [0u8; FORM_LIMIT];
     let mut j = 0;
     while j < n {
         t[j] = scan[HELD_BYTES + j] as u8;
@@ -90,15 +92,15 @@ fn tail_fits(h: Held) -> bool
         return true;
     }
     let t = h.bytes;
-    let found = reference_decoder::read_reference(&t[..n]);
+    let found = reference_reader::read_reference(&t[..n]);
     match found {
-        Reference::Code(_, _) => {
+        Reference::Decoded(_, _) => {
             return false;
         }
-        Reference::Plain => {
+        Reference::Literal => {
             return false;
         }
-        Reference::Open => {
+        Reference::Incomplete => {
             return true;
         }
     }

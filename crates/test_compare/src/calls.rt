@@ -1,9 +1,9 @@
 // Each call of the finder next to that of `oracle`, with what they were lent.
 ghost use Prim.Native.Nat.{_≤_};
+use decoder::Answer;
 use oracle::Called;
 use oracle::Plain;
 use oracle_rule::Rule;
-use reference_decoder::Answer;
 
 // Entries of the lists and buffers that the calls are lent parts of.
 pub const LIST: usize = 512;
@@ -105,7 +105,7 @@ fn same_rule(number: u32, place: u32, positions: u32, shortest: u32, r: Rule) ->
 }
 
 pub fn prepares(rule: &[u8], fold: u32, r: Rule) -> bool {
-    let p = rule_compiler::prepare(rule, fold);
+    let p = rule_parser::prepare(rule, fold);
     same_rule(p.number, p.place, p.positions, p.shortest, r)
 }
 
@@ -151,7 +151,7 @@ pub fn opens(rule: &[u8], fold: u32, r: Rule, n: usize) -> bool {
 // ---- whole texts
 
 fn decode_both(raw: &[u8], ours: &mut [u8], theirs: &mut [u8], tally: &mut [u64]) -> bool {
-    let a = reference_decoder::decode(raw, ours);
+    let a = decoder::decode(raw, ours);
     let b = oracle::decode(raw, theirs);
     test_tally::count_call(tally, b.number);
     both(same_answer(a, b), same_bytes(ours, theirs))

@@ -1,5 +1,5 @@
 -- `piece_decoder::fill_amp` meets its contract. Its laws are in this crate's `proofs/`; `search LAW` finds a law's premises in `c`. Assumes nothing.
-use Rattle.piece_decoder.proofs.Fills.{code-fits, code-after, code-end, token-code, token-plain, token-open}
+use Rattle.piece_decoder.proofs.Fills.{code-fits, code-after, code-end, token-decoded, token-literal, token-incomplete}
 use borrow.Author.Needs.{needs}
 use Rattle.piece_decoder.proofs.fill_amp.Statement.{statement}
 use Rattle.piece_decoder.proofs.fill_amp.Tie as tie
@@ -41,7 +41,7 @@ same-length : tie.Need-same-length
 same-length c = search needs
 
 returns : tie.Need-returns
-returns c = search token-code
+returns c = search token-decoded
 
 enum-told : tie.Need-enum-told
 enum-told c = search needs
@@ -62,13 +62,13 @@ same-length-2 : tie.Need-same-length-2
 same-length-2 c = search needs
 
 returns-2 : tie.Need-returns-2
-returns-2 c = search token-plain
+returns-2 c = search token-literal
 
 enum-told-2 : tie.Need-enum-told-2
 enum-told-2 c = search needs
 
 returns-3 : tie.Need-returns-3
-returns-3 c = search token-open
+returns-3 c = search token-incomplete
 
 pub fill-amp-spec : {M : Type 1} → statement M
 fill-amp-spec =

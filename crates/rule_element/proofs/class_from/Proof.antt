@@ -7,8 +7,8 @@ use Rattle.rule_element.proofs.class_from.Tie as tie
 peek-requires : tie.Need-peek-requires
 peek-requires c κs = search needs
 
-fault-requires : tie.Need-fault-requires
-fault-requires c κs = search needs
+refuse-kind-requires : tie.Need-refuse-kind-requires
+refuse-kind-requires c κs = search needs
 
 returns : tie.Need-returns
 returns c = search class-empty
@@ -22,8 +22,8 @@ enum-known-close c = search needs
 enum-told : tie.Need-enum-told
 enum-told c = search needs
 
-fault-requires-2 : tie.Need-fault-requires-2
-fault-requires-2 c κs = search needs
+refuse-kind-requires-2 : tie.Need-refuse-kind-requires-2
+refuse-kind-requires-2 c κs = search needs
 
 returns-2 : tie.Need-returns-2
 returns-2 c = search class-open
@@ -34,8 +34,8 @@ class-set-requires c κs = search needs
 is-empty-requires : tie.Need-is-empty-requires
 is-empty-requires c κs = search needs
 
-fault-requires-3 : tie.Need-fault-requires-3
-fault-requires-3 c κs = search needs
+refuse-kind-requires-3 : tie.Need-refuse-kind-requires-3
+refuse-kind-requires-3 c κs = search needs
 
 returns-3 : tie.Need-returns-3
 returns-3 c = search class-bare
@@ -48,15 +48,15 @@ class-from-spec =
     tie.close
     (tie.spec
     peek-requires
-    fault-requires
+    refuse-kind-requires
     returns
     read-items-requires
     enum-known-close
     enum-told
-    fault-requires-2
+    refuse-kind-requires-2
     returns-2
     class-set-requires
     is-empty-requires
-    fault-requires-3
+    refuse-kind-requires-3
     returns-3
     returns-4)

@@ -10,8 +10,8 @@ add-first c = search needs
 read-bound-requires : tie.Need-read-bound-requires
 read-bound-requires c κs = search needs
 
-fault-requires : tie.Need-fault-requires
-fault-requires c κs = search needs
+refuse-kind-requires : tie.Need-refuse-kind-requires
+refuse-kind-requires c κs = search needs
 
 returns : tie.Need-returns
 returns c = search gap-bare
@@ -19,8 +19,8 @@ returns c = search gap-bare
 peek-requires : tie.Need-peek-requires
 peek-requires c κs = search needs
 
-fault-requires-2 : tie.Need-fault-requires-2
-fault-requires-2 c κs = search needs
+refuse-kind-requires-2 : tie.Need-refuse-kind-requires-2
+refuse-kind-requires-2 c κs = search needs
 
 returns-2 : tie.Need-returns-2
 returns-2 c = search gap-comma
@@ -31,8 +31,8 @@ add-second c = search needs
 read-bound-requires-2 : tie.Need-read-bound-requires-2
 read-bound-requires-2 c κs = search needs
 
-fault-requires-3 : tie.Need-fault-requires-3
-fault-requires-3 c κs = search needs
+refuse-kind-requires-3 : tie.Need-refuse-kind-requires-3
+refuse-kind-requires-3 c κs = search needs
 
 returns-3 : tie.Need-returns-3
 returns-3 c = search gap-bare-2
@@ -40,20 +40,20 @@ returns-3 c = search gap-bare-2
 peek-requires-2 : tie.Need-peek-requires-2
 peek-requires-2 c κs = search needs
 
-fault-requires-4 : tie.Need-fault-requires-4
-fault-requires-4 c κs = search needs
+refuse-kind-requires-4 : tie.Need-refuse-kind-requires-4
+refuse-kind-requires-4 c κs = search needs
 
 returns-4 : tie.Need-returns-4
 returns-4 c = search gap-brace
 
-fault-requires-5 : tie.Need-fault-requires-5
-fault-requires-5 c κs = search needs
+refuse-kind-requires-5 : tie.Need-refuse-kind-requires-5
+refuse-kind-requires-5 c κs = search needs
 
 returns-5 : tie.Need-returns-5
 returns-5 c = search gap-reversed
 
-fault-requires-6 : tie.Need-fault-requires-6
-fault-requires-6 c κs = search needs
+refuse-kind-requires-6 : tie.Need-refuse-kind-requires-6
+refuse-kind-requires-6 c κs = search needs
 
 returns-6 : tie.Need-returns-6
 returns-6 c = search gap-zero
@@ -70,21 +70,21 @@ read-gap-spec =
     (tie.spec
     add-first
     read-bound-requires
-    fault-requires
+    refuse-kind-requires
     returns
     peek-requires
-    fault-requires-2
+    refuse-kind-requires-2
     returns-2
     add-second
     read-bound-requires-2
-    fault-requires-3
+    refuse-kind-requires-3
     returns-3
     peek-requires-2
-    fault-requires-4
+    refuse-kind-requires-4
     returns-4
-    fault-requires-5
+    refuse-kind-requires-5
     returns-5
-    fault-requires-6
+    refuse-kind-requires-6
     returns-6
     add-next
     returns-7)

@@ -34,8 +34,8 @@ enum-known-b c = search needs
 enum-told : tie.Need-enum-told
 enum-told c = search needs
 
-fault-requires : tie.Need-fault-requires
-fault-requires c κs = search needs
+refuse-kind-requires : tie.Need-refuse-kind-requires
+refuse-kind-requires c κs = search needs
 
 returns-4 : tie.Need-returns-4
 returns-4 c = search kind-no-escape
@@ -46,32 +46,32 @@ plain-requires c κs = search needs
 returns-5 : tie.Need-returns-5
 returns-5 c = search kind-escape
 
-fault-requires-2 : tie.Need-fault-requires-2
-fault-requires-2 c κs = search needs
+refuse-kind-requires-2 : tie.Need-refuse-kind-requires-2
+refuse-kind-requires-2 c κs = search needs
 
 returns-6 : tie.Need-returns-6
 returns-6 c = search kind-question
 
-fault-requires-3 : tie.Need-fault-requires-3
-fault-requires-3 c κs = search needs
+refuse-kind-requires-3 : tie.Need-refuse-kind-requires-3
+refuse-kind-requires-3 c κs = search needs
 
 returns-7 : tie.Need-returns-7
 returns-7 c = search kind-plus
 
-fault-requires-4 : tie.Need-fault-requires-4
-fault-requires-4 c κs = search needs
+refuse-kind-requires-4 : tie.Need-refuse-kind-requires-4
+refuse-kind-requires-4 c κs = search needs
 
 returns-8 : tie.Need-returns-8
 returns-8 c = search kind-star
 
-fault-requires-5 : tie.Need-fault-requires-5
-fault-requires-5 c κs = search needs
+refuse-kind-requires-5 : tie.Need-refuse-kind-requires-5
+refuse-kind-requires-5 c κs = search needs
 
 returns-9 : tie.Need-returns-9
 returns-9 c = search kind-bracket
 
-fault-requires-6 : tie.Need-fault-requires-6
-fault-requires-6 c κs = search needs
+refuse-kind-requires-6 : tie.Need-refuse-kind-requires-6
+refuse-kind-requires-6 c κs = search needs
 
 returns-10 : tie.Need-returns-10
 returns-10 c = search kind-brace
@@ -96,19 +96,19 @@ read-kind-spec =
     read-escape-requires
     enum-known-b
     enum-told
-    fault-requires
+    refuse-kind-requires
     returns-4
     plain-requires
     returns-5
-    fault-requires-2
+    refuse-kind-requires-2
     returns-6
-    fault-requires-3
+    refuse-kind-requires-3
     returns-7
-    fault-requires-4
+    refuse-kind-requires-4
     returns-8
-    fault-requires-5
+    refuse-kind-requires-5
     returns-9
-    fault-requires-6
+    refuse-kind-requires-6
     returns-10
     plain-requires-2
     returns-11)

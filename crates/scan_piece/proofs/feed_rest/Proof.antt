@@ -7,17 +7,17 @@ use Rattle.scan_piece.proofs.feed_rest.Tie as tie
 scan-rest-requires : tie.Need-scan-rest-requires
 scan-rest-requires c κs = search needs
 
-sub-join : tie.Need-sub-join
-sub-join c = search needs
+sub-top-up : tie.Need-sub-top-up
+sub-top-up c = search needs
 
-part-join-start : tie.Need-part-join-start
-part-join-start c = search needs
+part-top-up-start : tie.Need-part-top-up-start
+part-top-up-start c = search needs
 
-part-join-end : tie.Need-part-join-end
-part-join-end c = search needs
+part-top-up-end : tie.Need-part-top-up-end
+part-top-up-end c = search needs
 
-join-requires : tie.Need-join-requires
-join-requires c κs = search needs
+top-up-requires : tie.Need-top-up-requires
+top-up-requires c κs = search needs
 
 same-length : tie.Need-same-length
 same-length c = search needs
@@ -30,9 +30,9 @@ feed-rest-spec =
     tie.close
     (tie.spec
     scan-rest-requires
-    sub-join
-    part-join-start
-    part-join-end
-    join-requires
+    sub-top-up
+    part-top-up-start
+    part-top-up-end
+    top-up-requires
     same-length
     returns)

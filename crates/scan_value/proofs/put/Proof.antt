@@ -2,7 +2,7 @@
 use native.Mathlib.Omega.{arith}
 use lib.ListN.{length-set}
 use Rattle.model.specs.References.{formLimit, heldMost}
-use Rattle.reference_decoder.specs.Crosses.{heldOf}
+use Rattle.piece_decoder.specs.Held.{heldOf}
 use Rattle.scan_value.specs.Value.{slots}
 use Rattle.scan_value.proofs.Fields.{put-long, put-all}
 use borrow.Author.Needs.{needs}

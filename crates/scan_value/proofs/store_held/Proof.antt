@@ -1,6 +1,6 @@
 -- `scan_value::store_held` meets its contract. Its laws are in this crate's `proofs/`; `search LAW` finds a law's premises in `c`. Assumes nothing.
 use Prim.Native.Nat.{_-_}
-use Rattle.reference_decoder.specs.Crosses.{heldOf}
+use Rattle.piece_decoder.specs.Held.{heldOf}
 use Rattle.scan_value.proofs.Fields.{Storing, storing, store-turn, stored}
 use borrow.Author.Needs.{needs}
 use Rattle.scan_value.proofs.store_held.Statement.{statement}

@@ -1,7 +1,7 @@
 -- `scan_value::tail_fits` meets its contract. Its laws are in this crate's `proofs/`; `search LAW` finds a law's premises in `c`. Assumes nothing.
 use native.Mathlib.Omega.{arith}
 use lib.ListN.{length-take}
-use Rattle.scan_value.proofs.Checks.{tail-none, tail-code, tail-plain, tail-open}
+use Rattle.scan_value.proofs.Checks.{tail-none, tail-decoded, tail-literal, tail-incomplete}
 use borrow.Author.Needs.{needs}
 use Rattle.scan_value.proofs.tail_fits.Statement.{statement}
 use Rattle.scan_value.proofs.tail_fits.Tie as tie
@@ -22,19 +22,19 @@ enum-told : tie.Need-enum-told
 enum-told c = search needs
 
 returns-2 : tie.Need-returns-2
-returns-2 c = search tail-code
+returns-2 c = search tail-decoded
 
 enum-told-2 : tie.Need-enum-told-2
 enum-told-2 c = search needs
 
 returns-3 : tie.Need-returns-3
-returns-3 c = search tail-plain
+returns-3 c = search tail-literal
 
 enum-told-3 : tie.Need-enum-told-3
 enum-told-3 c = search needs
 
 returns-4 : tie.Need-returns-4
-returns-4 c = search tail-open
+returns-4 c = search tail-incomplete
 
 pub tail-fits-spec : {M : Type 1} → statement M
 tail-fits-spec =

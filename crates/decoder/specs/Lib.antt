@@ -1,0 +1,2 @@
+-- What the decoder gives, in the model's terms.
+pub mod Decoder

@@ -1,7 +1,0 @@
--- Laws on plain values; each function's own file only cites them.
-pub mod ElementMasks
-pub mod RuleLaws
-pub mod PrepareLaws
-pub mod GainLaws
-pub mod FillLaws
-pub mod Encoded

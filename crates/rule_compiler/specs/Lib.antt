@@ -1,4 +1,0 @@
--- What the contracts cite.
-pub mod Gathering
-pub mod Preparing
-pub mod Tables

@@ -1,0 +1,14 @@
+-- `rule_parser::position_mask` meets its contract. Its laws are in this crate's `proofs/`; `search LAW` finds a law's premises in `c`. Assumes nothing.
+use borrow.Author.Needs.{needs}
+use Rattle.rule_parser.proofs.PrepareLaws.{all-positions}
+use Rattle.rule_parser.proofs.position_mask.Statement.{statement}
+use Rattle.rule_parser.proofs.position_mask.Tie as tie
+
+low-ones-requires : tie.Need-low-ones-requires
+low-ones-requires c κs = search needs
+
+returns : tie.Need-returns
+returns c = search all-positions
+
+pub position-mask-spec : {M : Type 1} → statement M
+position-mask-spec = tie.close (tie.spec low-ones-requires returns)

@@ -1,0 +1,316 @@
+-- The laws of `fill`: an entry after each element, forwards and reversed. On plain values. Assumes nothing.
+use mathlib.Core.Path.{_≡_, refl, sym, ap, ap₂, _∙_}
+use mathlib.Core.List.{List, [], _∷_, _++_, reverse, reverse-cons, reverse-append}
+use mathlib.Core.Bool.{Bool, true, false, cond, _&&_}
+use Prim.Native.Nat.{ℕ, zero, suc, _+_, _-_, _*_, _%_, _^_, _≤_, _<_}
+use native.Mathlib.Omega.{arith}
+use native.Mathlib.Nat.{add-zero, zero-add, mul-assoc, add-mul, zero-mul}
+use lib.ListN.{length, getD, drop, replicate, length-append, length-reverse}
+use lib.Seq.{ext-getD}
+use lib.Bits.{bitOr, or-zero-r, or-shifted}
+use lib.Pow.{pow-add, pow-pos, shl-lt, shl-exact}
+use lib.Dec.{eqb, ltb}
+use borrow.Author.Tests.{lt-ltb}
+use Rattle.model.specs.Occurrence.{Position, oneIf, shortest}
+use Rattle.model.specs.RuleText as Model
+use Rattle.model.specs.RuleText.{foldFlag, ruleLimit, positionLimit, byte, any, class, gap, once, optional, position, positions, kindPositions, kindSet, isByte}
+use Rattle.model.specs.NumberedAnswers.{Parsed, refused, accepted, addElement, elementsFrom, orEmpty, parse, positionsBy, rulePositions}
+use Rattle.model.proofs.Refusals.{refusal-row}
+use Rattle.shift_and.specs.Masks.{maskFrom, mask, admitsMask}
+use Rattle.shift_and.proofs.MaskLaws.{mask-append}
+use Rattle.byte_set.proofs.SetLaws.{class-member}
+use Rattle.rule_element.specs.declared.Kind.{Kind}
+use Rattle.rule_element.specs.declared.Element.{Element}
+use Rattle.rule_element.specs.declared.ElementAnswer.the-variants.{Got, Refused}
+use Rattle.rule_element.specs.declared.ElementResult.{ElementResult}
+use Rattle.rule_element.specs.Reading.{kindOf, setOf, sizeOf, KindFits, ElementMoves, ReadsElement}
+use Rattle.rule_parser.specs.Gathering.{placedOn}
+use Rattle.rule_parser.specs.Preparing.{preparedBy, prepared}
+use Rattle.rule_table.specs.Tables.{entriesFrom, tableOf, rowOf, Cleared, gained, admitsBy, Room, slotBits, Placed, Fillable, Filled}
+use Rattle.rule_parser.proofs.ElementMasks.{kind-length}
+use Rattle.rule_parser.proofs.RuleLaws.{elements-end, element-refused, Found, moved, element-found, placed-lt, placed-mask, size-some}
+
+-- ---- lists whose positions all have a property, or none has it
+
+abbrev pub Every : (Position → Bool) → Bool → List Position → Type 0
+Every f b [] = Unit {0}
+Every f b (p ∷ ps) = (f p ≡ b) × Every f b ps
+
+pub every-append : (f : Position → Bool) (b : Bool) (ps qs : List Position) → Every f b ps → Every f b qs → Every f b (ps ++ qs)
+every-append f b [] qs h g = g
+every-append f b (p ∷ ps) qs h g = (h .0, every-append f b ps qs (h .1) g)
+
+every-replicate : (f : Position → Bool) (b : Bool) (p : Position) → f p ≡ b → (n : ℕ) → Every f b (replicate n p)
+every-replicate f b p e zero = tt
+every-replicate f b p e (suc n) = (e, every-replicate f b p e n)
+
+pub every-reverse : (f : Position → Bool) (b : Bool) (ps : List Position) → Every f b ps → Every f b (reverse ps)
+every-reverse f b [] h = tt
+every-reverse f b (p ∷ ps) h = rw (reverse-cons p ps) (every-append f b (reverse ps) (p ∷ []) (every-reverse f b ps (h .1)) (h .0, tt))
+
+abbrev full : Bool → ℕ → ℕ
+full b n = cond b (2 ^ n - 1) 0
+
+pub every-mask : (f : Position → Bool) (b : Bool) (ps : List Position) → Every f b ps → maskFrom f ps ≡ full b (length ps)
+unfolding maskFrom
+every-mask f true [] h = refl
+every-mask f false [] h = refl
+every-mask f true (p ∷ ps) h =
+    let i = every-mask f true ps (h .1) in
+    let q : oneIf (f p) ≡ 1 = ap oneIf (h .0) in
+    let l = pow-pos (length ps) in
+    let g : maskFrom f ps * 2 + oneIf (f p) ≡ 2 ^ suc (length ps) - 1 = omega arith in
+    g
+every-mask f false (p ∷ ps) h =
+    let i = every-mask f false ps (h .1) in
+    let q : oneIf (f p) ≡ 0 = ap oneIf (h .0) in
+    omega arith
+
+full-lt : (b : Bool) (n : ℕ) → full b n < 2 ^ n
+full-lt true n = let l = pow-pos n in omega arith
+full-lt false n = pow-pos n
+
+-- ---- an entry
+
+-- what the positions left make of an entry x is what all make: forwards they stand above x, reversed below it
+abbrev pub Entry : (reversed : Bool) → (Position → Bool) → (used : ℕ) (left all : List Position) (x : ℕ) → Type 0
+Entry false f used left all x = (x < 2 ^ (used + 1)) × (x + maskFrom f left * 2 ^ (used + 1) ≡ mask f all)
+Entry true f used left all x = (y : ℕ) × (x ≡ y * 2 ^ (length left + 1)) × (x + mask f (reverse left) ≡ mask f (reverse all))
+
+module _ (f : Position → Bool) (b : Bool) (kp ps all : List Position) (every : Every f b kp) (used n x : ℕ) (long : length kp ≡ n) (room : used + n ≤ positionLimit) where
+  gained-on : gained b ((2 ^ n - 1) * 2 ^ (used + 1) % 2 ^ 64) x ≡ placedOn x (full b n) used
+  gained-on = go b
+    where
+      go : (b : Bool) → gained b ((2 ^ n - 1) * 2 ^ (used + 1) % 2 ^ 64) x ≡ placedOn x (full b n) used
+      go true = refl
+      go false = rw zero-mul (sym (or-zero-r x))
+
+  entry-on : Entry false f used (kp ++ ps) all x → Entry false f (used + n) ps all (gained b ((2 ^ n - 1) * 2 ^ (used + 1) % 2 ^ 64) x)
+  entry-on e =
+      let v = full b n in
+      let l = full-lt b n in
+      let m : maskFrom f (kp ++ ps) ≡ v + maskFrom f ps * 2 ^ n = mask-append f kp ps ∙ ap₂ (λ (a k : ℕ). a + maskFrom f ps * 2 ^ k) (every-mask f b kp every ∙ ap (full b) long) long in (
+        rw gained-on (placed-lt x v used n (e .0) l room),
+        rw gained-on (sym (placed-mask x used n v (maskFrom f ps) (e .0) l room) ∙ ap (λ (a : ℕ). x + a * 2 ^ (used + 1)) (sym m) ∙ e .1),
+      )
+
+  module _ (total : ℕ) (count : used + n + length ps ≡ total) (few : total ≤ positionLimit) where
+    abbrev L : ℕ
+    L = length ps
+
+    abbrev bits : ℕ
+    bits = (2 ^ n - 1) * 2 ^ (total - used - n + 1) % 2 ^ 64
+
+    is-bits : bits ≡ (2 ^ n - 1) * 2 ^ (L + 1)
+    is-bits =
+        let k : total - used - n + 1 ≡ L + 1 = omega arith in
+        ap (λ (j : ℕ). (2 ^ n - 1) * 2 ^ j % 2 ^ 64) k ∙ shl-exact n (L + 1) 64 (full-lt true n) (omega arith)
+
+    gained-back : (y : ℕ) → x ≡ y * 2 ^ (n + (L + 1)) → gained b bits x ≡ x + full b n * 2 ^ (L + 1)
+    gained-back y e = go b
+      where
+        go : (b : Bool) → gained b bits x ≡ x + full b n * 2 ^ (L + 1)
+        go true = ap₂ bitOr e is-bits ∙ or-shifted y (n + (L + 1)) ((2 ^ n - 1) * 2 ^ (L + 1)) (shl-lt n (L + 1) (full-lt true n)) ∙ ap (λ (a : ℕ). a + (2 ^ n - 1) * 2 ^ (L + 1)) (sym e)
+        go false = rw zero-mul (sym (add-zero x))
+
+    entry-back : Entry true f used (kp ++ ps) all x → Entry true f (used + n) ps all (gained b bits x)
+    entry-back e =
+        let v = full b n in
+        let y = e .0 in
+        let k : length (kp ++ ps) + 1 ≡ n + (L + 1) = omega (arith, length-append kp ps) in
+        let ex : x ≡ y * 2 ^ (n + (L + 1)) = e .1 ∙ ap (λ (j : ℕ). y * 2 ^ j) k in
+        let g = gained-back y ex in
+        let r : maskFrom f (reverse (kp ++ ps)) ≡ maskFrom f (reverse ps) + v * 2 ^ L =
+        ap (maskFrom f) (reverse-append kp ps) ∙ mask-append f (reverse ps) (reverse kp)
+        ∙ ap₂ (λ (a j : ℕ). maskFrom f (reverse ps) + a * 2 ^ j) (every-mask f b (reverse kp) (every-reverse f b kp every) ∙ ap (full b) (length-reverse kp ∙ long)) (length-reverse ps) in
+        let d : v * 2 ^ (L + 1) ≡ v * 2 ^ L * 2 = ap (λ (a : ℕ). v * a) (let z : 2 ^ (L + 1) ≡ 2 ^ L * 2 = pow-add 2 L 1 in z) ∙ sym (mul-assoc v (2 ^ L) 2) in
+        let h : y * 2 ^ (n + (L + 1)) + v * 2 ^ (L + 1) ≡ (y * 2 ^ n + v) * 2 ^ (L + 1) = rw (add-mul, pow-add 2 n (L + 1), mul-assoc) in
+        (y * 2 ^ n + v, g ∙ ap (λ (a : ℕ). a + v * 2 ^ (L + 1)) ex ∙ h, rw g (let z : x + v * 2 ^ (L + 1) + mask f (reverse ps) ≡ mask f (reverse all) = omega (arith, e .2) in z))
+
+-- ---- what an element admits
+
+admits-is : (fold : Bool) (used : ℕ) (d : Model.Kind) (c : ℕ) → c < 256 → admitsBy fold (kindOf used d) (setOf fold d) c ≡ (isByte c && kindSet fold d c)
+admits-is fold used d c h = go d ∙ sym (ap (λ (b : Bool). b && kindSet fold d c) (lt-ltb c 256 h))
+  where
+    go : (d : Model.Kind) → admitsBy fold (kindOf used d) (setOf fold d) c ≡ kindSet fold d c
+    go (byte b) = refl
+    go any = refl
+    go (class t rs) = class-member fold t rs c h
+    go (gap a b) = refl
+
+pub kind-every : (fold : Bool) (d : Model.Kind) (o : Model.Often) (c : ℕ) → Every (λ p. p .set c) (isByte c && kindSet fold d c) (kindPositions fold d o)
+kind-every fold (byte b) o c = (refl, tt)
+kind-every fold any o c = (refl, tt)
+kind-every fold (class t rs) o c = (refl, tt)
+kind-every fold (gap a b) o c =
+    every-append (λ p. p .set c) (isByte c && true) (replicate (b - a) (position fold any optional)) (replicate a (position fold any once))
+    (every-replicate (λ p. p .set c) (isByte c && true) (position fold any optional) refl (b - a)) (every-replicate (λ p. p .set c) (isByte c && true) (position fold any once) refl a)
+
+-- ---- the table of a list of positions, entry by entry
+
+pub long-entries : (ps : List Position) (n c : ℕ) → length (entriesFrom ps c n) ≡ n
+unfolding entriesFrom
+long-entries ps zero c = refl
+long-entries ps (suc n) c = ap suc (long-entries ps n (suc c))
+
+pub entry-at : (ps : List Position) (n c i : ℕ) → i < n → getD (entriesFrom ps c n) i 0 ≡ admitsMask ps (c + i)
+unfolding entriesFrom
+entry-at ps zero c i l = absurd (omega arith)
+entry-at ps (suc n) c zero l = ap (admitsMask ps) (sym (add-zero c))
+entry-at ps (suc n) c (suc i) l = entry-at ps n (suc c) i (omega arith) ∙ ap (admitsMask ps) (let z : suc c + i ≡ c + suc i = omega arith in z)
+
+-- ---- the loop
+
+pub record Filling (fold : Bool) (s : List ℕ) (all : List Position) (reversed : Bool) (total : ℕ) (table : List ℕ) (at used : ℕ) : Type 0 where
+  pub left : List Model.Element
+  pub rest : elementsFrom positionLimit fold 0 at used (drop at s) ≡ accepted left
+  pub count : used + length (positions fold left) ≡ total
+  pub few : total ≤ positionLimit
+  pub long : length table ≡ 256
+  pub each : (c : ℕ) → c < 256 → Entry reversed (λ p. p .set c) used (positions fold left) all (getD table c 0)
+
+-- a rule whose number is 0 is accepted
+pub record Accepts (fold : Bool) (s : List ℕ) : Type 0 where
+  pub elements : List Model.Element
+  pub parses : parse fold s ≡ accepted elements
+  pub reads : elementsFrom positionLimit fold 0 0 0 s ≡ accepted elements
+
+clash : {A : Type 0} {n p : ℕ} {es : List Model.Element} → refused n p ≡ accepted es → A
+clash q = let y : _≡_ {A = ℕ} 0 1 = cc in absurd (omega arith)
+
+pub accepts : (fold : Bool) (s : List ℕ) → preparedBy fold (parse fold s) .number ≡ 0 → Accepts fold s
+accepts fold s z = go (parse fold s) refl
+  where
+    inner : (es : List Model.Element) (x : Parsed) → orEmpty fold s x ≡ accepted es → x ≡ accepted es
+    inner es (refused n p) q = clash q
+    inner es (accepted fs) q = by (eqb (shortest (positions fold fs)) 0) q
+      where
+        by : (b : Bool) → cond b (refused 8 (length s)) (accepted fs) ≡ accepted es → accepted fs ≡ accepted es
+        by true q = clash q
+        by false q = q
+
+    reads-of : (es : List Model.Element) → parse fold s ≡ accepted es → elementsFrom positionLimit fold 0 0 0 s ≡ accepted es
+    reads-of es q = one (eqb (length s) 0) (ltb ruleLimit (length s)) q
+      where
+        one : (b d : Bool) → cond b (refused 1 0) (cond d (refused 2 ruleLimit) (orEmpty fold s (elementsFrom positionLimit fold 0 0 0 s))) ≡ accepted es → elementsFrom positionLimit fold 0 0 0 s ≡ accepted es
+        one true d q = clash q
+        one false true q = clash q
+        one false false q = inner es (elementsFrom positionLimit fold 0 0 0 s) q
+
+    go : (x : Parsed) → parse fold s ≡ x → Accepts fold s
+    go (accepted es) q = record { elements = es; parses = q; reads = reads-of es q }
+    go (refused n p) q =
+        let l = refusal-row positionLimit fold ruleLimit s n p q .0 in
+        let e : n ≡ 0 = sym (ap (λ (y : Parsed). preparedBy fold y .number) q) ∙ z in
+        absurd (omega arith)
+
+pub fill-begun : (flag : ℕ) (s : List ℕ) (total : ℕ) (table₀ table : List ℕ) (reversed : Bool) → Fillable flag s total table₀ → Cleared table 256 → (f : Bool) → f ≡ foldFlag flag → Filling f s (rulePositions (foldFlag flag) s) reversed total table 0 0
+unfolding prepared
+fill-begun flag s total table₀ table reversed h k f ef =
+    let es = accepts (foldFlag flag) s (h .fine) in
+    let a : rulePositions (foldFlag flag) s ≡ positions f (es .elements) = ap (positionsBy (foldFlag flag)) (es .parses) ∙ ap (λ (b : Bool). positions b (es .elements)) (sym ef) in
+    let n : total ≡ length (positions f (es .elements)) = h .count ∙ ap (λ (y : Parsed). preparedBy (foldFlag flag) y .positions) (es .parses) ∙ ap (λ (b : Bool). length (positions b (es .elements))) (sym ef) in
+    record {
+      left = es .elements;
+      rest = ap (λ (b : Bool). elementsFrom positionLimit b 0 0 0 s) ef ∙ es .reads;
+      count = zero-add _ ∙ sym n;
+      few = h .few;
+      long = k .long;
+      each = λ c l. rw (k .zeros c l, a) (first (λ p. p .set c) (positions f (es .elements)) reversed);
+    }
+  where
+    first : (g : Position → Bool) (ps : List Position) (reversed : Bool) → Entry reversed g 0 ps ps 0
+    first g ps false = (omega arith, omega arith)
+    first g ps true = (0, sym (zero-mul _), zero-add _)
+
+module _ (f : Bool) (s : List ℕ) (all : List Position) (reversed : Bool) (total : ℕ) (table : List ℕ) (at used : ℕ) (g : Filling f s all reversed total table at used) where
+  accepted-inj : {es fs : List Model.Element} → accepted es ≡ accepted fs → es ≡ fs
+  accepted-inj e = cc
+
+  pub fill-over : length s ≤ at → (flag : ℕ) → all ≡ rulePositions (foldFlag flag) s → Filled flag s reversed table
+  unfolding maskFrom
+  fill-over h flag ea = record { long = g .long; is = ext-getD 0 table (tableOf (rowOf reversed (rulePositions (foldFlag flag) s))) (g .long ∙ sym (long-entries (rowOf reversed (rulePositions (foldFlag flag) s)) 256 0)) same }
+    where
+      none : g .left ≡ []
+      none = accepted-inj (sym (g .rest) ∙ elements-end f used s at h)
+
+      last : (q : Position → Bool) (b : Bool) (x : ℕ) → Entry b q used [] all x → x ≡ mask q (rowOf b all)
+      last q false x e = (let z : x ≡ x + 0 * 2 ^ (used + 1) = rw zero-mul (sym (add-zero x)) in z) ∙ e .1
+      last q true x e = sym (add-zero x) ∙ e .2
+
+      same : (i : ℕ) → i < length table → getD table i 0 ≡ getD (tableOf (rowOf reversed (rulePositions (foldFlag flag) s))) i 0
+      same i l =
+          let k : i < 256 = omega (arith, g .long) in
+          last (λ p. p .set i) reversed (getD table i 0) (rw none at (g .each i k))
+          ∙ ap (λ (ps : List Position). admitsMask (rowOf reversed ps) i) ea
+          ∙ sym (entry-at (rowOf reversed (rulePositions (foldFlag flag) s)) 256 0 i k ∙ ap (admitsMask (rowOf reversed (rulePositions (foldFlag flag) s))) (zero-add i))
+
+  module _ (h : at < length s) (r : ElementResult) (rc : ReadsElement f used s at r) where
+    -- an accepted rule has no element that is refused
+    pub fill-never : (k : ℕ) → r .answer ≡ Refused k → (flag : ℕ) → Filled flag s reversed table
+    fill-never k e flag = clash (sym (element-refused f used s at h r rc k e) ∙ g .rest)
+
+    module _ (element : Element) (to : ℕ) (e : r .answer ≡ Got element to) where
+      found : Found f used s at h r rc element to e
+      found = element-found f used s at h r rc element to e
+
+      moves : ElementMoves used s at element to
+      moves = moved f used s at h r rc element to e
+
+      after : (fs : List Model.Element) × (elementsFrom positionLimit f 0 to (used + sizeOf (element .kind)) (drop to s) ≡ accepted fs) × (record { kind = found .kind; often = found .often } ∷ fs ≡ g .left)
+      after = go (elementsFrom positionLimit f 0 to (used + sizeOf (element .kind)) (drop to s)) refl
+        where
+          go : (x : Parsed) → elementsFrom positionLimit f 0 to (used + sizeOf (element .kind)) (drop to s) ≡ x
+              → (fs : List Model.Element) × (elementsFrom positionLimit f 0 to (used + sizeOf (element .kind)) (drop to s) ≡ accepted fs) × (record { kind = found .kind; often = found .often } ∷ fs ≡ g .left)
+          go (accepted fs) q = (fs, q, accepted-inj (sym (found .turn ∙ ap (addElement (record { kind = found .kind; often = found .often })) q) ∙ g .rest))
+          go (refused n p) q = clash (sym (found .turn ∙ ap (addElement (record { kind = found .kind; often = found .often })) q) ∙ g .rest)
+
+      pub fill-ahead : (at < to) × (to ≤ length s)
+      fill-ahead = (omega (arith, moves .ahead), moves .inside)
+
+      same-kind : element .kind ≡ kindOf used (found .kind)
+      same-kind = ap (λ (y : Element). y .kind) (found .is-element)
+
+      fits : KindFits (kindOf used (found .kind))
+      fits = rw same-kind at (moves .fits)
+
+      kp : List Position
+      kp = kindPositions f (found .kind) (found .often)
+
+      abbrev n : ℕ
+      n = sizeOf (element .kind)
+
+      long-kp : length kp ≡ n
+      unfolding kp
+      long-kp = kind-length f used (found .kind) (found .often) fits ∙ ap sizeOf (sym same-kind)
+
+      is-left : positions f (g .left) ≡ kp ++ positions f (after .0)
+      unfolding kp
+      is-left = ap (positions f) (sym (after .2))
+
+      counted : used + n + length (positions f (after .0)) ≡ total
+      counted = omega (arith, g .count, ap length is-left, length-append kp (positions f (after .0)), long-kp)
+
+      pub fill-room : Room n used total
+      fill-room = record { some = size-some (element .kind) (moves .fits); room = omega (arith, counted); few = g .few }
+
+      next : (d : Bool) (c x : ℕ) → Entry d (λ p. p .set c) used (kp ++ positions f (after .0)) all x
+          → Entry d (λ p. p .set c) (used + n) (positions f (after .0)) all (gained (isByte c && kindSet f (found .kind) c) (slotBits n used total d) x)
+      unfolding kp
+      next false c x e = entry-on (λ p. p .set c) (isByte c && kindSet f (found .kind) c) kp (positions f (after .0)) all (kind-every f (found .kind) (found .often) c) used n x long-kp (omega (arith, counted, g .few)) e
+      next true c x e = entry-back (λ p. p .set c) (isByte c && kindSet f (found .kind) c) kp (positions f (after .0)) all (kind-every f (found .kind) (found .often) c) used n x long-kp (omega (arith, counted, g .few)) total counted (g .few) e
+
+      pub fill-turn : (m : ℕ) (table′ : List ℕ) → Placed f (element .kind) (r .set) used total reversed table m table′ → Filling f s all reversed total table′ to (used + m)
+      fill-turn m table′ d = rw (d .size) (record {
+        left = after .0;
+        rest = after .1;
+        count = counted;
+        few = g .few;
+        long = d .gains .long;
+        each = λ c l.
+            let e : Entry reversed (λ p. p .set c) used (kp ++ positions f (after .0)) all (getD table c 0) = rw is-left at (g .each c l) in
+            let b : admitsBy f (element .kind) (r .set) c ≡ (isByte c && kindSet f (found .kind) c) = ap₂ (λ (k : Kind) (w : List ℕ). admitsBy f k w c) same-kind (found .is-set) ∙ admits-is f used (found .kind) c l in
+            let q : getD table′ c 0 ≡ gained (isByte c && kindSet f (found .kind) c) (slotBits n used total reversed) (getD table c 0) =
+            d .gains .each c l ∙ ap (λ (y : Bool). gained y (slotBits n used total reversed) (getD table c 0)) b in
+            rw q (next reversed c (getD table c 0) e);
+      })

@@ -1,0 +1,152 @@
+// The table of a rule: for each byte the mask of the positions that admit it. Forwards position i stands at bit i, reversed at bit n + 1 - i,
+// n being the number of positions. A lent table has 256 entries.
+ghost use mathlib.Core.Path.{_≡_};
+ghost use Prim.Native.Nat.{_<_, _+_};
+ghost use lib.ListN.{length};
+ghost use Rattle.rule_element.specs.Reading.{sizeOf};
+ghost use Rattle.rule_table.specs.Tables.{Cleared, Gains, always, hasByte, inSet, admitsBy, Room, slotBits, Placed, Fillable, Filled, mirror};
+use rule_element::ElementAnswer;
+use rule_element::Kind;
+
+// Every entry becomes 0.
+fn clear(table: &mut [u64])
+    requires { ⌜ length (now table) ≡ 256 ⌝ }
+    ensures { λ r. ⌜ Cleared (now (table .exit)) 256 ⌝ }
+{
+    let mut c = 0;
+    while c < 256 {
+        table[c] = 0;
+        c += 1;
+    }
+}
+
+// Every entry gains the bits.
+fn admit_all(table: &mut [u64], bits: u64)
+    requires { ⌜ length (now table) ≡ 256 ⌝ }
+    ensures { λ r. ⌜ Gains always bits (now (table .entry)) (now (table .exit)) ⌝ }
+{
+    let mut c = 0;
+    while c < 256 {
+        table[c] = table[c] | bits;
+        c += 1;
+    }
+}
+
+// The entries of the bytes in the set gain the bits.
+fn admit_class(table: &mut [u64], set: [u64; 4], bits: u64)
+    requires { ⌜ length (now table) ≡ 256 ⌝ }
+    ensures { λ r. ⌜ Gains (inSet set) bits (now (table .entry)) (now (table .exit)) ⌝ }
+{
+    let mut c = 0;
+    while c < 256 {
+        let i = c;
+        c += 1;
+        if byte_set::has(set, i as u8) {
+            table[i] = table[i] | bits;
+        }
+    }
+}
+
+// The entry of one byte gains the bits, and with the fold flag set that of its other case: no loop.
+fn admit_byte(table: &mut [u64], b: u8, fold: bool, bits: u64)
+    requires { ⌜ length (now table) ≡ 256 ⌝ }
+    ensures { λ r. ⌜ Gains (hasByte fold b) bits (now (table .entry)) (now (table .exit)) ⌝ }
+{
+    let i = byte_search::index(b);
+    let own = table[i] | bits;
+    if fold {
+        let o = byte_search::index(byte_set::other_case(i));
+        table[o] = table[o] | bits;
+        table[i] = own;
+        return;
+    }
+    table[i] = own;
+}
+
+// The entries of the bytes that an element admits gain the bits.
+fn admit_element(table: &mut [u64], kind: Kind, set: [u64; 4], fold: bool, bits: u64)
+    requires { ⌜ length (now table) ≡ 256 ⌝ }
+    ensures { λ r. ⌜ Gains (admitsBy fold kind set) bits (now (table .entry)) (now (table .exit)) ⌝ }
+{
+    match kind {
+        Kind::Byte(b) => admit_byte(table, b, fold, bits),
+        Kind::Any => admit_all(table, bits),
+        Kind::Class(_) => admit_class(table, set, bits),
+        Kind::Gap(_, _) => admit_all(table, bits),
+    }
+}
+
+// The bits of n positions after `used` of `total`.
+fn slots(n: u32, used: u32, total: u32, reversed: bool) -> u64
+    requires { ⌜ Room n used total ⌝ }
+    ensures { λ r. ⌜ r ≡ slotBits n used total reversed ⌝ }
+{
+    let ones = rule_parser::low_ones(n);
+    if reversed {
+        return ones << (total - used - n + 1);
+    }
+    ones << (used + 1)
+}
+
+// One element after `used` positions of `total`: the entries of the bytes that it admits gain the bits
+// of its positions. Returns how many positions it makes.
+fn place(
+    table: &mut [u64],
+    kind: Kind,
+    set: [u64; 4],
+    fold: bool,
+    used: u32,
+    total: u32,
+    reversed: bool,
+) -> u32
+    requires { ⌜ length (now table) ≡ 256 ⌝ }
+    requires { ⌜ Room (sizeOf kind) used total ⌝ }
+    ensures { λ r. ⌜ Placed fold kind set used total reversed (now (table .entry)) r (now (table .exit)) ⌝ }
+{
+    let n = rule_element::size(kind);
+    let bits = slots(n, used, total, reversed);
+    admit_element(table, kind, set, fold, bits);
+    n
+}
+
+// The table of an accepted rule, whose number of positions `prepare` gave: entry c becomes the mask of
+// the positions that admit c.
+pub fn fill(rule: &[u8], fold: u32, total: u32, table: &mut [u64], reversed: bool)
+    requires { ⌜ Fillable fold (now rule) total (now table) ⌝ }
+    ensures { λ r. ⌜ Filled fold (now (rule .entry)) reversed (now (table .exit)) ⌝ }
+{
+    clear(table);
+    let f = rule_parser::folds(fold);
+    let mut at = 0;
+    let mut used = 0u32;
+    while at < rule.len() {
+        let e = rule_element::read_element(rule, at, f, used);
+        let set = e.set;
+        let answer = e.answer;
+        match answer {
+            ElementAnswer::Refused(_) => {
+                return;
+            }
+            ElementAnswer::Got(element, next) => {
+                let kind = element.kind;
+                used += place(table, kind, set, f, used, total, reversed);
+                at = next;
+            }
+        }
+    }
+}
+
+// The mask of n positions for the reversed rule: bit i goes to bit n + 1 - i.
+pub fn mirrored(mask: u64, n: u32) -> u64
+    ensures { λ r. ⌜ r ≡ mirror mask n ⌝ }
+{
+    let mut from = mask / 2;
+    let mut to = 0u64;
+    let mut left = n;
+    while 0 < left {
+        to = (to << 1) | (from % 2);
+        from = from / 2;
+        left -= 1;
+    }
+    to << 1
+}
