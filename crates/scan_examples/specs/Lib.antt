@@ -1,2 +1,0 @@
--- What a part of the program promises.
-pub mod Places
