@@ -1,10 +1,13 @@
 // Holds the finder against a second implementation. Each line of standard input begins with what it is:
-//   ? rule, tab, text          a case of document 01, compared with the texts cut in many ways
+//   ? rule, tab, text          a case of document 01 or an edge, compared with the text cut in many ways
 //   ! rule, tab, text          the same with the fold flag set
-//   = raw, tab, hexadecimal    a reference and the bytes that it decodes to, by XML 1.0
+//   = raw, tab, hexadecimal    a text with references and the bytes that it decodes to, by XML 1.0
 //   * seed, space, number      so many cases drawn from the seed
 // It prints what it drew, each difference, and what was compared.
 ghost use Prim.Native.Nat.{_≤_};
+use test_compare::case;
+use test_io::lines;
+use test_io::tally;
 
 // How often the text of a line is cut anew.
 const CUTS: usize = 20;
@@ -12,7 +15,7 @@ const CUTS: usize = 20;
 fn compare_often(rule: &[u8], fold: u32, raw: &[u8], random: &mut u64, tally: &mut [u64]) {
     let mut left = CUTS;
     while left > 0 {
-        test_case::compare(rule, fold, raw, random, tally);
+        case::compare(rule, fold, raw, random, tally);
         left -= 1;
     }
 }
@@ -74,19 +77,19 @@ fn are(bytes: &[u8], hexadecimal: &[u8]) -> bool {
 }
 
 fn decodes_to(raw: &[u8], hexadecimal: &[u8]) -> bool {
-    let mut out = [0u8; test_case::TEXT];
+    let mut out = [0u8; case::TEXT];
     let a = oracle::decode(raw, &mut out);
-    let n = at_most(a.count, test_case::TEXT);
+    let n = at_most(a.count, case::TEXT);
     are(&out[0..n], hexadecimal)
 }
 
 fn published(raw: &[u8], hexadecimal: &[u8], random: &mut u64, tally: &mut [u64]) {
-    let call = test_tally::Call {
+    let call = tally::Call {
         taken: 0,
         given: raw.len(),
         list: 0,
     };
-    test_tally::expect(
+    tally::expect(
         decodes_to(raw, hexadecimal),
         b"published reference",
         call,
@@ -102,11 +105,11 @@ fn published(raw: &[u8], hexadecimal: &[u8], random: &mut u64, tally: &mut [u64]
 
 fn draw_case(random: &mut u64, tally: &mut [u64]) {
     let mut rule = [0u8; 300];
-    let mut raw = [0u8; test_case::TEXT];
+    let mut raw = [0u8; case::TEXT];
     let n = at_most(test_random::rule(random, &mut rule), 300);
-    let m = at_most(test_random::text(random, &mut raw), test_case::TEXT);
+    let m = at_most(test_random::text(random, &mut raw), case::TEXT);
     let fold = test_random::up_to(random, 2) as u32;
-    test_case::compare(&rule[0..n], fold * 256, &raw[0..m], random, tally);
+    case::compare(&rule[0..n], fold * 256, &raw[0..m], random, tally);
 }
 
 fn draw_cases(cases: usize, random: &mut u64, tally: &mut [u64]) {
@@ -118,11 +121,11 @@ fn draw_cases(cases: usize, random: &mut u64, tally: &mut [u64]) {
 }
 
 fn draw_from(line: &[u8], random: &mut u64, tally: &mut [u64]) {
-    let seed = test_lines::number_at(line, 0);
-    let cases = test_lines::number_at(line, after(seed.next));
-    test_tally::number(b"seed ", seed.value);
-    test_tally::number(b", cases ", cases.value);
-    test_tally::text(b"\n");
+    let seed = lines::number_at(line, 0);
+    let cases = lines::number_at(line, after(seed.next));
+    tally::number(b"seed ", seed.value);
+    tally::number(b", cases ", cases.value);
+    tally::text(b"\n");
     *random = seed.value as u64;
     draw_cases(cases.value, random, tally);
 }
@@ -155,7 +158,7 @@ fn kind_line(kind: u8, s: &[u8], random: &mut u64, tally: &mut [u64]) {
         draw_from(s, random, tally);
         return;
     }
-    let t = test_lines::place_of(s, 0, b'\t');
+    let t = lines::place_of(s, 0, b'\t');
     if t < s.len() {
         parts(kind, &s[0..t], &s[t + 1..], random, tally);
     }
@@ -171,7 +174,7 @@ fn all_lines(s: &[u8], tally: &mut [u64]) {
     let mut random = 1;
     let mut i = 0;
     while i < s.len() {
-        let e = test_lines::place_of(s, i, b'\n');
+        let e = lines::place_of(s, i, b'\n');
         line(&s[i..e], &mut random, tally);
         i = e + 1;
     }
@@ -180,41 +183,42 @@ fn all_lines(s: &[u8], tally: &mut [u64]) {
 // ---- counts
 
 fn count(name: &[u8], tally: &[u64], kind: usize) {
-    test_tally::text(name);
-    io::print_decimal(1, test_tally::entry(tally, kind));
-    test_tally::text(b"\n");
+    tally::text(name);
+    io::print_decimal(1, tally::entry(tally, kind));
+    tally::text(b"\n");
 }
 
 fn refusals(tally: &[u64]) {
+    let last = tally::REFUSALS;
     let mut n = 1;
-    while n <= 12 {
-        test_tally::number(b"refused by ", n);
+    while n <= last {
+        tally::number(b"refused by ", n);
         count(b": ", tally, n);
         n += 1;
     }
 }
 
 fn found(tally: &[u64]) {
-    count(b"references ", tally, test_tally::REFERENCES);
-    count(b"ends ", tally, test_tally::ENDS);
-    count(b"starts ", tally, test_tally::STARTS);
-    count(b"windows ", tally, test_tally::WINDOWS);
+    count(b"references ", tally, tally::REFERENCES);
+    count(b"ends ", tally, tally::ENDS);
+    count(b"starts ", tally, tally::STARTS);
+    count(b"windows ", tally, tally::WINDOWS);
 }
 
 fn counts(tally: &[u64]) {
-    count(b"calls ", tally, test_tally::CALLS);
-    count(b"pieces ", tally, test_tally::PIECES);
-    count(b"starts shown ", tally, test_tally::SHOWN);
-    count(b"accepted rules ", tally, test_tally::ACCEPTED);
+    count(b"calls ", tally, tally::CALLS);
+    count(b"pieces ", tally, tally::PIECES);
+    count(b"starts shown ", tally, tally::SHOWN);
+    count(b"accepted rules ", tally, tally::ACCEPTED);
     refusals(tally);
     found(tally);
-    count(b"differences ", tally, test_tally::DIFFERENCES);
+    count(b"differences ", tally, tally::DIFFERENCES);
 }
 
 fn main() {
     let mut room = io::large_buffer();
     let n = io::read_full(0, &mut room);
-    let mut tally = [0u64; test_tally::TALLY];
+    let mut tally = [0u64; tally::TALLY];
     all_lines(&room[0..n], &mut tally);
     counts(&tally);
 }

@@ -4,6 +4,7 @@
 ghost use Prim.Native.Nat.{_<_};
 ghost use lib.ListN.{length};
 use lister_core::Taken;
+use test_io::lines;
 
 // What was taken, and where the line goes on.
 struct Step {
@@ -39,7 +40,7 @@ fn take_item(taken: Taken, line: &[u8], i: usize, rule: &mut [u8], plan: &mut [u
             next: i + 1,
         };
     }
-    let n = test_lines::number_at(line, i + 1);
+    let n = lines::number_at(line, i + 1);
     let at = n.next;
     if at >= line.len() {
         return Step {
@@ -75,7 +76,7 @@ fn case(title: &[u8], line: &[u8]) {
 }
 
 fn line_case(s: &[u8]) {
-    let t = test_lines::place_of(s, 0, b'\t');
+    let t = lines::place_of(s, 0, b'\t');
     if t < s.len() {
         case(&s[0..t], &s[t + 1..]);
     }
@@ -84,7 +85,7 @@ fn line_case(s: &[u8]) {
 fn line_cases(s: &[u8]) {
     let mut i = 0;
     while i < s.len() {
-        let e = test_lines::place_of(s, i, b'\n');
+        let e = lines::place_of(s, i, b'\n');
         line_case(&s[i..e]);
         i = e + 1;
     }

@@ -10,9 +10,12 @@ ghost use Prim.Native.Nat.{_<_, _≤_};
 ghost use lib.ListN.{length};
 ghost use Rattle.oracle.specs.Shifts.{IsShift};
 
+pub mod positions;
+pub mod reference;
+pub mod rule;
 pub mod shares;
 
-use oracle_rule::Rule;
+use rule::Rule;
 use shares::PLACES;
 
 // More bytes than a text, or all the pieces, may have.
@@ -60,7 +63,7 @@ pub fn decode(raw: &[u8], out: &mut [u8]) -> Answer {
     if number != 0 {
         return refused(number, 0);
     }
-    reported(oracle_reference::decode(raw, out), 0)
+    reported(reference::decode(raw, out), 0)
 }
 
 // Puts a number into a list; how many stand there then.
@@ -92,13 +95,13 @@ pub struct Called {
 // "Its text is what P, without its held tail as long as it has not finished, decodes to."
 fn text_of(p: &[u8], finished: bool, text: &mut [u8]) -> usize {
     if finished {
-        return oracle_reference::decode(p, text);
+        return reference::decode(p, text);
     }
-    let held = oracle_reference::held(p);
+    let held = reference::held(p);
     if held > p.len() {
         return 0;
     }
-    oracle_reference::decode(&p[0..p.len() - held], text)
+    reference::decode(&p[0..p.len() - held], text)
 }
 
 // "A call is refused by 12 if it has finished, else by 10 if P and the piece together are over the

@@ -1,6 +1,6 @@
 // Document 01's "Occurrence". `places` says of each place of a text, from 0 to its length, whether the
 // positions so far can have their shares end there; it has an entry for each.
-use oracle_rule::positions;
+use crate::positions;
 
 // Places of the longest text that is decided here.
 pub const PLACES: usize = 512;

@@ -1,9 +1,10 @@
 // Each call of the finder next to that of `oracle`, with what they were lent.
 ghost use Prim.Native.Nat.{_≤_};
-use decoder::Answer;
 use oracle::Called;
 use oracle::Plain;
-use oracle_rule::Rule;
+use oracle::rule::Rule;
+use decoder::Answer;
+use test_io::tally;
 
 // Entries of the lists and buffers that the calls are lent parts of.
 pub const LIST: usize = 512;
@@ -153,7 +154,7 @@ pub fn opens(rule: &[u8], fold: u32, r: Rule, n: usize) -> bool {
 fn decode_both(raw: &[u8], ours: &mut [u8], theirs: &mut [u8], tally: &mut [u64]) -> bool {
     let a = decoder::decode(raw, ours);
     let b = oracle::decode(raw, theirs);
-    test_tally::count_call(tally, b.number);
+    tally::count_call(tally, b.number);
     both(same_answer(a, b), same_bytes(ours, theirs))
 }
 
@@ -177,9 +178,9 @@ fn search_both(
 ) -> bool {
     let a = jazhuppe::search(rule, fold, text, ours);
     let b = oracle::search(r, table, text, theirs);
-    test_tally::count_call(tally, b.number);
-    test_tally::add(tally, test_tally::STARTS, b.count);
-    test_tally::add(tally, test_tally::WINDOWS, b.windows);
+    tally::count_call(tally, b.number);
+    tally::add(tally, tally::STARTS, b.count);
+    tally::add(tally, tally::WINDOWS, b.windows);
     both(same_answer(a, b), same_list(ours, theirs))
 }
 
@@ -235,8 +236,8 @@ fn compare_scan_call(
 ) -> Compared {
     let b = c.answer;
     let plain = c.plain;
-    test_tally::count_call(tally, b.number);
-    test_tally::add(tally, test_tally::ENDS, b.count);
+    tally::count_call(tally, b.number);
+    tally::add(tally, tally::ENDS, b.count);
     let answers = both(same_answer(a, b), same_list(ours, theirs));
     let same = both(answers, kept_if(a.number != 0, scan, before));
     Compared {
@@ -365,7 +366,7 @@ fn refuse_both(piece: &[u8], scan: &mut [u64], list: &mut [u32]) -> bool {
 pub fn refuses_zeros(piece: &[u8], tally: &mut [u64]) -> bool {
     let mut scan = [0u64; scan_value::LENGTH];
     let mut list = [MARK; 9];
-    test_tally::count_call(tally, 11);
-    test_tally::count_call(tally, 11);
+    tally::count_call(tally, 11);
+    tally::count_call(tally, 11);
     refuse_both(piece, &mut scan, &mut list)
 }

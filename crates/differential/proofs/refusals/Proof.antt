@@ -5,10 +5,10 @@ use Rattle.differential.proofs.refusals.Statement.{statement}
 use Rattle.differential.proofs.refusals.Tie as tie
 
 abbrev Inv-loop : tie.InvT-loop
-Inv-loop tally n₀ t3 t4 n = Unit
+Inv-loop tally last n₀ t3 t4 n = Unit
 
 abbrev μ-loop : tie.MeasureT-loop
-μ-loop tally n₀ t3 t4 n = (12 + 1) - n
+μ-loop tally last n₀ t3 t4 n = (last + 1) - n
 
 loop-holds : tie.Need-loop-holds Inv-loop μ-loop
 loop-holds c = search needs
