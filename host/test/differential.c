@@ -353,7 +353,7 @@ static void make_hostile(void)
 }
 
 /* A rule with optional parts and a long plan of its own letters, on which it cannot be foreseen what a byte changes. */
-static void make_restless(void)
+static void make_dense(void)
 {
     static const char *const rules[] = {"[0-9]+[.,]?[0-9]?[0-9]? ?E?U?R", "[0-9]+[.,]?[0-9] ?E?U?R", "ab?c?d?a", "a.*b", "[AZ][az]+ {0,9}[09]+", "xa*y?x"};
     const char *rule = rules[below(sizeof rules / sizeof rules[0])];
@@ -596,7 +596,7 @@ static void try_case(void)
     if (one_in(700)) {
         make_hostile();
     } else if (one_in(500)) {
-        make_restless();
+        make_dense();
     } else {
         make_rule();
         make_plan();

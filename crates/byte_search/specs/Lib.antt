@@ -1,2 +1,2 @@
 -- What the contracts cite.
-pub mod Looks
+pub mod BlockTests

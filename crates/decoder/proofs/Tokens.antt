@@ -13,7 +13,7 @@ use Rattle.model.specs.References.{formLimit, none, found, referenceAt, utf8, d
 use Rattle.model.specs.NumberedAnswers.{textLimit}
 use Rattle.model.proofs.LentLists.{sets-append, sets-from, sets-overwrite}
 use Rattle.model.proofs.Decoding.{decode-none}
-use Rattle.literal_run.specs.Runs.{RunCopied}
+use Rattle.literal_run.specs.LiteralRuns.{LiteralsCopied}
 use Rattle.reference_reader.specs.declared.Reference.{Reference}
 use Rattle.reference_reader.specs.declared.Reference.the-variants.{Decoded, Literal, Incomplete}
 use Rattle.decoder.specs.declared.Place.{Place}
@@ -30,12 +30,12 @@ module _ (raw out : List ℕ) (i at : ℕ) (h : i < length raw) (room : at + len
   rest-is = take-all (length raw - i) (drop i raw) (omega (arith, length-drop i raw))
 
   -- a run of plain bytes
-  pub token-run : (getD raw i 0 ≡ 38 → ⊥) → (n : ℕ) (part : List ℕ) → RunCopied (midOf i (length raw - i) raw) (midOf at (length out - at) out) n part
+  pub token-run : (getD raw i 0 ≡ 38 → ⊥) → (n : ℕ) (part : List ℕ) → LiteralsCopied (midOf i (length raw - i) raw) (midOf at (length out - at) out) n part
       → TokenIs raw i out at (record { read = i + n; written = at + n }) (putMid at (length out - at) out part)
   unfolding decoded
   token-run z n part x =
       let d = drop i raw in
-      let y : RunCopied d (midOf at (length out - at) out) n part = subst (λ (l : List ℕ). RunCopied l (midOf at (length out - at) out) n part) rest-is x in
+      let y : LiteralsCopied d (midOf at (length out - at) out) n part = subst (λ (l : List ℕ). LiteralsCopied l (midOf at (length out - at) out) n part) rest-is x in
       let u = y .run in
       let f = u .fits in
       let l : length d ≡ length raw - i = length-drop i raw in

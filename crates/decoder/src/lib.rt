@@ -54,7 +54,7 @@ fn token(raw: &[u8], i: usize, out: &mut [u8], at: usize) -> Place
     if raw[i] == b'&' {
         return amp_token(raw, i, out, at);
     }
-    let n = literal_run::copy_run(&raw[i..], &mut out[at..]);
+    let n = literal_run::copy_literals(&raw[i..], &mut out[at..]);
     Place {
         read: i + n,
         written: at + n,
@@ -90,7 +90,7 @@ pub struct Answer {
 pub fn decode(raw: &[u8], out: &mut [u8]) -> Answer
     ensures { λ r. ⌜ DecodeIs (now (raw .entry)) (now (out .entry)) r (now (out .exit)) ⌝ }
 {
-    if raw.len() > 4_294_967_295 {
+    if raw.len() > limits::TEXT_LIMIT {
         return Answer {
             number: 10,
             place: 0,

@@ -9,8 +9,8 @@ use test_compare::case;
 use test_io::lines;
 use test_io::tally;
 
-// How often the text of a line is cut anew.
-const CUTS: usize = 20;
+// How often the text of a line is cut anew: so often that each place of it is a cut at least once.
+const CUTS: usize = 60;
 
 fn compare_often(rule: &[u8], fold: u32, raw: &[u8], random: &mut u64, tally: &mut [u64]) {
     let mut left = CUTS;

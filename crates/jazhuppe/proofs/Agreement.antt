@@ -18,7 +18,7 @@ use Rattle.model.proofs.Accepted.{rule-ok}
 use Rattle.model.proofs.Truth.{branch}
 use Rattle.model.proofs.Decoding.{decode-length}
 use Rattle.model.proofs.Decided as Decided
-use Rattle.model.proofs.Plans.{plan-ends}
+use Rattle.model.proofs.FinishedPlan.{plan-ends}
 use Rattle.model.proofs.Windows.{shift-is, windows-are, no-start-passed}
 use Rattle.decoder.specs.declared.Answer.{Answer}
 use Rattle.scan.specs.declared.Opened.{Opened}

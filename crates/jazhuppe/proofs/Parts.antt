@@ -21,7 +21,8 @@ use Rattle.rule_parser.specs.declared.Prepared.{Prepared}
 use Rattle.rule_parser.specs.Preparing.{preparedBy, prepared, Prepares}
 use Rattle.rule_table.specs.Tables.{Fillable, Filled}
 use Rattle.rule_table.proofs.Encoded.{is-refused, is-accepted, may-fill, positions-are, shortest-is, encodes-forwards, encodes-reversed}
-use Rattle.window_reader.specs.Reading.{Tables, FirstIs}
+use Rattle.shift_and_step.specs.Stepping.{TableFits}
+use Rattle.window_reader.specs.Reading.{LastByteStates}
 use Rattle.window_search.specs.declared.Rule.{Rule}
 use Rattle.window_search.specs.declared.Found.{Found}
 use Rattle.window_search.specs.Searching.{RuleFits, RuleOf, SearchFits, SearchedIs}
@@ -64,7 +65,7 @@ module _ (flag : ℕ) (rule : List ℕ) (p : Prepared) (hp : Prepares flag rule 
         subst (λ (R : ℕ). Encodes 64 ps (λ c. getD forward c 0) R (q .forward .optional)) (sym (x .on-repeats))
         (subst (λ (A : ℕ). Encodes 64 ps (λ c. getD forward c 0) (p .repeats) A) (sym (x .on-optional)) (encodes-forwards flag rule p hp z forward f))
 
-    pub on-fits : Tables forward (q .forward)
+    pub on-fits : TableFits forward (q .forward)
     on-fits = record { long = f .long; top = omega (arith, x .on-top, hp .few) }
 
 -- ---- `search_accepted`
@@ -97,10 +98,10 @@ module _ (flag : ℕ) (rule : List ℕ) (p : Prepared) (text listed : ℕ) (r : 
           onward = onward flag rule p hp z q x forward f;
         }
 
-    pub back-fits : Tables reversed (q .reversed)
+    pub back-fits : TableFits reversed (q .reversed)
     back-fits = let n = r .prepares .few in let back = x .back-top in record { long = b .long; top = omega arith }
 
-    pub rule-fits : {first : List ℕ} → FirstIs reversed (q .reversed) first → RuleFits forward reversed first q
+    pub rule-fits : {first : List ℕ} → LastByteStates reversed (q .reversed) first → RuleFits forward reversed first q
     rule-fits i =
         let m = rule-of in
         let s : q .shortest ≡ shortest (rulePositions (foldFlag flag) rule) = m .mirrors .size in

@@ -2,6 +2,7 @@
 ghost use mathlib.Core.Path.{_≡_};
 ghost use Prim.Native.Nat.{_<_, _≤_};
 ghost use lib.ListN.{length};
+ghost use Rattle.model.specs.RuleText.{positionLimit};
 ghost use Rattle.jazhuppe.specs.Searching.{answering, WholeIs, Ready, PreparedIs, WorkIs, SearchIs};
 ghost use denote.Ref.{ptr};
 ghost use Rattle.jazhuppe.specs.Showing.{Showable, PartIs, ShownIs, ShowsPart};
@@ -18,7 +19,7 @@ use window_search::Span;
 fn whole(text: usize, list: usize) -> u32
     ensures { λ r. ⌜ WholeIs text list r ⌝ }
 {
-    if text > 0xffff_ffff {
+    if text > limits::TEXT_LIMIT {
         return 10;
     }
     if list < text {
@@ -29,7 +30,7 @@ fn whole(text: usize, list: usize) -> u32
 
 // A prepared rule's masks in both directions.
 fn rule_of(p: Prepared) -> Rule
-    requires { ⌜ p .positions ≤ 63 ⌝ }
+    requires { ⌜ p .positions ≤ positionLimit ⌝ }
     ensures { λ r. ⌜ PreparedIs p r ⌝ }
 {
     let n = p.positions as u64;
@@ -78,7 +79,7 @@ fn search_accepted(rule: &[u8], fold: u32, p: Prepared, text: &[u8], starts: &mu
     rule_table::fill(rule, fold, total, &mut reversed, true);
     let mut first = [0u64; 256];
     let back = prepared.reversed;
-    window_reader::first_steps(&reversed, back, &mut first);
+    window_reader::last_byte_states(&reversed, back, &mut first);
     let f = window_search::search_tables(&forward, &reversed, &first, prepared, text, starts);
     let count = f.count as u32;
     let windows = f.windows as u32;
@@ -122,7 +123,7 @@ fn span(rule: &[u8], fold: u32, text: &[u8], start: usize) -> Span
     if p.number != 0 {
         return Span { from: len, to: len };
     }
-    if len > 0xffff_ffff {
+    if len > limits::TEXT_LIMIT {
         return Span { from: len, to: len };
     }
     if start > len {

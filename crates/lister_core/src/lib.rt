@@ -1,11 +1,11 @@
 // Document 01's lister: a rule on the first line of its input, the raw plan after that newline. `take`
 // sorts the input into both, however long it is and in whatever pieces it comes; `list` prints what
-// the finder answers.
+// the finder answers, through the calls that a C host has.
 ghost use Prim.Native.Nat.{_≤_};
 use decoder::Answer;
 
 // Bytes of the rule that are kept: one more than a rule may have, so that a longer one is refused.
-pub const RULE_ROOM: usize = 256;
+pub const RULE_ROOM: usize = limits::RULE_LIMIT + 1;
 
 // "16,384 bytes at most"
 pub const PLAN_LIMIT: usize = 16384;
@@ -14,7 +14,7 @@ pub const PLAN_LIMIT: usize = 16384;
 // list that a feed needs.
 const PIECE: usize = 4096;
 
-const PIECE_LIST: usize = 4105;
+const PIECE_LIST: usize = PIECE + limits::HELD_MOST;
 
 // What was taken so far: whether the first newline has come, how many bytes of the rule and of the
 // plan are kept, and whether the plan had more than may be kept.
@@ -120,7 +120,7 @@ fn reported(a: Answer, list: &[u32]) {
 
 fn feed_piece(scan: &mut [u64], piece: &[u8]) {
     let mut ends = [0u32; PIECE_LIST];
-    let a = scan::feed(scan, piece, &mut ends);
+    let a = jazhuppe::exports::jazhuppe_feed(scan, piece, &mut ends);
     reported(a, &ends);
 }
 
@@ -138,18 +138,18 @@ fn feed_pieces(scan: &mut [u64], plan: &[u8]) {
 
 fn list_ends(rule: &[u8], plan: &[u8]) {
     let mut scan = [0u64; scan_value::LENGTH];
-    scan::open(rule, 0, &mut scan);
+    jazhuppe::exports::jazhuppe_open(rule, 0, &mut scan);
     text(b"ends");
     feed_pieces(&mut scan, plan);
-    let mut ends = [0u32; 9];
-    let a = scan::finish(&mut scan, &mut ends);
+    let mut ends = [0u32; limits::HELD_MOST];
+    let a = jazhuppe::exports::jazhuppe_finish(&mut scan, &mut ends);
     reported(a, &ends);
     text(b"\n");
 }
 
 fn list_starts(rule: &[u8], decoded: &[u8]) {
     let mut starts = [0u32; PLAN_LIMIT];
-    let a = jazhuppe::search(rule, 0, decoded, &mut starts);
+    let a = jazhuppe::exports::jazhuppe_search(rule, 0, decoded, &mut starts);
     text(b"starts");
     reported(a, &starts);
     text(b"\n");
@@ -159,13 +159,13 @@ fn list_starts(rule: &[u8], decoded: &[u8]) {
 fn list_plan(rule: &[u8], plan: &[u8]) {
     list_ends(rule, plan);
     let mut decoded = [0u8; PLAN_LIMIT];
-    let a = decoder::decode(plan, &mut decoded);
+    let a = jazhuppe::exports::jazhuppe_decode(plan, &mut decoded);
     let n = at_most(a.count as usize, PLAN_LIMIT);
     list_starts(rule, &decoded[0..n]);
 }
 
 fn list_rule(rule: &[u8], plan: &[u8]) {
-    let p = rule_parser::prepare(rule, 0);
+    let p = jazhuppe::exports::jazhuppe_prepare(rule, 0);
     if p.number != 0 {
         text(b"refused ");
         number(p.number);

@@ -1,4 +1,4 @@
 -- Laws on plain values; each function's own file only cites them.
 pub mod Blocks
-pub mod RunLaws
-pub mod Spills
+pub mod LiteralLaws
+pub mod Overruns

@@ -1,18 +1,18 @@
-// Copying runs of bytes without a `&`: by blocks of 32 bytes, the last one a part of a block.
+// Copies literal bytes, those without a `&`, by blocks of 32, the last one a part of a block.
 ghost use mathlib.Core.Path.{_≡_};
 ghost use mathlib.Core.Bool.{cond};
 ghost use mathlib.Core.List.{_++_};
 ghost use Prim.Native.Nat.{_+_, _≤_};
 ghost use lib.ListN.{length, take, drop};
 ghost use lib.Seq.{sets};
-ghost use Rattle.byte_search.specs.Looks.{Looked, Missed, same};
-ghost use Rattle.literal_run.specs.Runs.{Copied, RestCopied, RunCopied, BlocksSpilled, RunSpilled};
+ghost use Rattle.byte_search.specs.BlockTests.{BlockTested, NoneBefore, same};
+ghost use Rattle.literal_run.specs.LiteralRuns.{Copied, RestCopied, LiteralsCopied, BlocksOverrun, LiteralsOverrun};
 
 // Whether one of the 32 bytes from i on is a `&`. No early exit, so that it compiles to vector
 // instructions.
-fn any_amp(s: &[u8], i: usize) -> bool
+fn block_has_amp(s: &[u8], i: usize) -> bool
     requires { ⌜ i + 32 ≤ length (now s) ⌝ }
-    ensures { λ r. ⌜ Looked (same (now (s .entry)) 38) i 32 r ⌝ }
+    ensures { λ r. ⌜ BlockTested (same (now (s .entry)) 38) i 32 r ⌝ }
 {
     let mut z = false;
     let mut j = 0;
@@ -24,7 +24,7 @@ fn any_amp(s: &[u8], i: usize) -> bool
 }
 
 // The 32 bytes from i on.
-fn block_at(s: &[u8], i: usize) -> [u8; 32]
+fn load_block(s: &[u8], i: usize) -> [u8; 32]
     requires { ⌜ i + 32 ≤ length (now s) ⌝ }
     ensures { λ r. ⌜ r ≡ take 32 (drop i (now (s .entry))) ⌝ }
 {
@@ -38,7 +38,7 @@ fn block_at(s: &[u8], i: usize) -> [u8; 32]
 }
 
 // Writes a block from i on.
-fn put_block(block: [u8; 32], i: usize, out: &mut [u8])
+fn store_block(block: [u8; 32], i: usize, out: &mut [u8])
     requires { ⌜ i + 32 ≤ length (now out) ⌝ }
     ensures { λ r. ⌜ now (out .exit) ≡ sets (now (out .entry)) i block ⌝ }
 {
@@ -56,11 +56,11 @@ fn copy_block(raw: &[u8], i: usize, out: &mut [u8])
     requires { ⌜ i + 32 ≤ length (now out) ⌝ }
     ensures { λ r. ⌜ now (out .exit) ≡ sets (now (out .entry)) i (take 32 (drop i (now (raw .entry)))) ⌝ }
 {
-    let block = block_at(raw, i);
-    put_block(block, i, out);
+    let block = load_block(raw, i);
+    store_block(block, i, out);
 }
 
-fn pick(first: bool, x: u8, y: u8) -> u8
+fn select(first: bool, x: u8, y: u8) -> u8
     ensures { λ r. ⌜ r ≡ cond first x y ⌝ }
 {
     if first {
@@ -71,7 +71,7 @@ fn pick(first: bool, x: u8, y: u8) -> u8
 
 // The first n bytes of a block, and then those of another. No branch on n, so that it compiles to
 // vector instructions.
-fn mixed(new: [u8; 32], old: [u8; 32], n: u8) -> [u8; 32]
+fn blend(new: [u8; 32], old: [u8; 32], n: u8) -> [u8; 32]
     requires { ⌜ n ≤ 32 ⌝ }
     ensures { λ r. ⌜ r ≡ take n new ++ drop n old ⌝ }
 {
@@ -79,7 +79,7 @@ fn mixed(new: [u8; 32], old: [u8; 32], n: u8) -> [u8; 32]
     let mut j: u8 = 0;
     while j < 32 {
         let k = j as usize;
-        block[k] = pick(j < n, new[k], old[k]);
+        block[k] = select(j < n, new[k], old[k]);
         j += 1;
     }
     block
@@ -93,22 +93,22 @@ fn copy_part(raw: &[u8], i: usize, n: usize, out: &mut [u8])
     requires { ⌜ i + 32 ≤ length (now out) ⌝ }
     ensures { λ r. ⌜ now (out .exit) ≡ sets (now (out .entry)) i (take n (drop i (now (raw .entry)))) ⌝ }
 {
-    let new = block_at(raw, i);
-    let old = block_at(out, i);
+    let new = load_block(raw, i);
+    let old = load_block(out, i);
     let k = n as u8;
-    let block = mixed(new, old, k);
-    put_block(block, i, out);
+    let block = blend(new, old, k);
+    store_block(block, i, out);
 }
 
 // Copies blocks of 32 bytes to the front of `out`, as far as they have no `&`, and returns how many
-// bytes these are. Each block is looked at and copied in the same turn.
+// bytes these are. Each block is tested and copied in the same turn.
 fn copy_blocks(raw: &[u8], out: &mut [u8]) -> usize
     requires { ⌜ length (now raw) ≤ length (now out) ⌝ }
     ensures { λ r. ⌜ Copied (now (raw .entry)) 0 (now (out .entry)) r (now (out .exit)) ⌝ }
 {
     let mut i = 0;
     while 32 <= raw.len() - i {
-        if any_amp(raw, i) {
+        if block_has_amp(raw, i) {
             return i;
         }
         copy_block(raw, i, out);
@@ -137,12 +137,12 @@ fn copy_bytes(raw: &[u8], i: usize, out: &mut [u8]) -> usize
 }
 
 // The same by one block, where a `&` is near.
-fn copy_near(raw: &[u8], i: usize, out: &mut [u8]) -> usize
+fn copy_last_block(raw: &[u8], i: usize, out: &mut [u8]) -> usize
     requires { ⌜ i + 64 ≤ length (now raw) ⌝ }
     requires { ⌜ length (now raw) ≤ length (now out) ⌝ }
     ensures { λ r. ⌜ RestCopied (now (raw .entry)) i (now (out .entry)) r (now (out .exit)) ⌝ }
 {
-    let j = byte_search::first_same(raw, b'&', i);
+    let j = byte_search::first_in_block(raw, b'&', i);
     let n = j - i;
     if 32 < n {
         return copy_bytes(raw, i, out);
@@ -155,29 +155,29 @@ fn copy_near(raw: &[u8], i: usize, out: &mut [u8]) -> usize
 }
 
 // Copies the bytes before the first `&`, or all of them, to the front of `out`, and returns how many.
-pub fn copy_run(raw: &[u8], out: &mut [u8]) -> usize
+pub fn copy_literals(raw: &[u8], out: &mut [u8]) -> usize
     requires { ⌜ length (now raw) ≤ length (now out) ⌝ }
-    ensures { λ r. ⌜ RunCopied (now (raw .entry)) (now (out .entry)) r (now (out .exit)) ⌝ }
+    ensures { λ r. ⌜ LiteralsCopied (now (raw .entry)) (now (out .entry)) r (now (out .exit)) ⌝ }
 {
     let i = copy_blocks(raw, out);
     if raw.len() - i < 64 {
         return copy_bytes(raw, i, out);
     }
-    copy_near(raw, i, out)
+    copy_last_block(raw, i, out)
 }
 
 // ---- into a buffer that is read only as far as it is written
 
-// Copies blocks of 32 bytes to the front of `out`, each before it is looked at, up to one that has a
+// Copies blocks of 32 bytes to the front of `out`, each before it is tested, up to one that has a
 // `&` or stands near the end, and returns where that begins.
-fn spill_blocks(raw: &[u8], out: &mut [u8]) -> usize
+fn copy_blocks_overrun(raw: &[u8], out: &mut [u8]) -> usize
     requires { ⌜ length (now raw) ≤ length (now out) ⌝ }
-    ensures { λ r. ⌜ BlocksSpilled (now (raw .entry)) (now (out .entry)) r (now (out .exit)) ⌝ }
+    ensures { λ r. ⌜ BlocksOverrun (now (raw .entry)) (now (out .entry)) r (now (out .exit)) ⌝ }
 {
     let mut at = 0;
     while 64 <= raw.len() - at {
         copy_block(raw, at, out);
-        if any_amp(raw, at) {
+        if block_has_amp(raw, at) {
             return at;
         }
         at += 32;
@@ -186,11 +186,11 @@ fn spill_blocks(raw: &[u8], out: &mut [u8]) -> usize
 }
 
 // How far from i on, at most 32 bytes, no `&` stands.
-fn near_amp(raw: &[u8], i: usize) -> usize
+fn amp_in_block(raw: &[u8], i: usize) -> usize
     requires { ⌜ i + 64 ≤ length (now raw) ⌝ }
-    ensures { λ r. ⌜ Missed (same (now (raw .entry)) 38) i (i + 32) r ⌝ }
+    ensures { λ r. ⌜ NoneBefore (same (now (raw .entry)) 38) i (i + 32) r ⌝ }
 {
-    let j = byte_search::first_same(raw, b'&', i);
+    let j = byte_search::first_in_block(raw, b'&', i);
     let n = j - i;
     if 32 < n {
         return i;
@@ -200,15 +200,15 @@ fn near_amp(raw: &[u8], i: usize) -> usize
 
 // Copies the bytes before the first `&`, or all of them, to the front of `out`, and returns how many.
 // What stands after them in `out` may change too.
-pub fn spill_run(raw: &[u8], out: &mut [u8]) -> usize
+pub fn copy_literals_overrun(raw: &[u8], out: &mut [u8]) -> usize
     requires { ⌜ length (now raw) ≤ length (now out) ⌝ }
-    ensures { λ r. ⌜ RunSpilled (now (raw .entry)) (now (out .entry)) r (now (out .exit)) ⌝ }
+    ensures { λ r. ⌜ LiteralsOverrun (now (raw .entry)) (now (out .entry)) r (now (out .exit)) ⌝ }
 {
-    let i = spill_blocks(raw, out);
+    let i = copy_blocks_overrun(raw, out);
     if raw.len() - i < 64 {
         return copy_bytes(raw, i, out);
     }
-    let j = near_amp(raw, i);
+    let j = amp_in_block(raw, i);
     if raw[j] == b'&' {
         return j;
     }

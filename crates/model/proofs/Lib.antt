@@ -13,5 +13,5 @@ pub mod Borders
 pub mod Decoding
 pub mod Cuts
 pub mod Scans
-pub mod Plans
+pub mod FinishedPlan
 pub mod LentLists

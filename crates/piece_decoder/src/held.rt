@@ -2,7 +2,7 @@
 ghost use Prim.Native.Nat.{_≤_};
 ghost use Rattle.model.specs.References.{formLimit, heldMost};
 ghost use Rattle.piece_decoder.specs.Held.{HeldFine, TopUpIs, ResolvedIs};
-use reference_reader::FORM_LIMIT;
+use limits::FORM_LIMIT;
 use reference_reader::Reference;
 
 // Bytes held back between pieces: as many as `len` says. The array has room for a whole form, so that

@@ -1,12 +1,12 @@
-// What a piece lets out, decoded into a room, so that it can be stepped over in one run.
+// What a piece lets out, decoded into a chunk, so that it can be stepped over in one scan.
 pub mod held;
 
 ghost use Prim.Native.Nat.{_+_, _≤_, _<_};
 ghost use lib.ListN.{length};
-ghost use Rattle.piece_decoder.specs.Filling.{TokenIs, FilledIs};
+ghost use Rattle.piece_decoder.specs.Chunks.{TokenIs, ChunkDecodedIs};
 use reference_reader::Reference;
 
-// After one token: how far the piece is read and the room written, and whether the rest is held back.
+// After one token: how far the piece is read and the chunk written, and whether the rest is held back.
 pub struct Token {
     pub read: usize,
     pub written: usize,
@@ -14,7 +14,7 @@ pub struct Token {
 }
 
 // One reference, or one byte that begins none; or all the rest, if it can still grow.
-fn fill_amp(piece: &[u8], i: usize, room: &mut [u8], at: usize) -> Token
+fn decode_amp(piece: &[u8], i: usize, room: &mut [u8], at: usize) -> Token
     requires { ⌜ i < length (now piece) ⌝ }
     requires { ⌜ at + length (now piece) ≤ length (now room) + i ⌝ }
     ensures { λ r. ⌜ TokenIs (now (piece .entry)) i (now (room .entry)) at r (now (room .exit)) ⌝ }
@@ -52,15 +52,15 @@ fn fill_amp(piece: &[u8], i: usize, room: &mut [u8], at: usize) -> Token
 }
 
 // The same, or a run of bytes up to the next `&`.
-fn fill_token(piece: &[u8], i: usize, room: &mut [u8], at: usize) -> Token
+fn decode_token(piece: &[u8], i: usize, room: &mut [u8], at: usize) -> Token
     requires { ⌜ i < length (now piece) ⌝ }
     requires { ⌜ at + length (now piece) ≤ length (now room) + i ⌝ }
     ensures { λ r. ⌜ TokenIs (now (piece .entry)) i (now (room .entry)) at r (now (room .exit)) ⌝ }
 {
     if piece[i] == b'&' {
-        return fill_amp(piece, i, room, at);
+        return decode_amp(piece, i, room, at);
     }
-    let n = literal_run::spill_run(&piece[i..], &mut room[at..]);
+    let n = literal_run::copy_literals_overrun(&piece[i..], &mut room[at..]);
     let after = i + n;
     let end = at + n;
     Token {
@@ -70,23 +70,23 @@ fn fill_token(piece: &[u8], i: usize, room: &mut [u8], at: usize) -> Token
     }
 }
 
-// How far the piece is let out, and the room written.
-pub struct Filled {
+// How far the piece is let out, and the chunk written.
+pub struct ChunkDecoded {
     pub kept: usize,
     pub written: usize,
 }
 
-// Decodes all that the piece lets out to the front of the room.
-pub fn fill(piece: &[u8], room: &mut [u8]) -> Filled
+// Decodes all that the piece lets out to the front of the chunk.
+pub fn decode_chunk(piece: &[u8], room: &mut [u8]) -> ChunkDecoded
     requires { ⌜ length (now piece) ≤ length (now room) ⌝ }
-    ensures { λ r. ⌜ FilledIs (now (piece .entry)) (now (room .entry)) r (now (room .exit)) ⌝ }
+    ensures { λ r. ⌜ ChunkDecodedIs (now (piece .entry)) (now (room .entry)) r (now (room .exit)) ⌝ }
 {
     let mut i = 0;
     let mut at = 0;
     while i < piece.len() {
-        let t = fill_token(piece, i, room, at);
+        let t = decode_token(piece, i, room, at);
         if t.held {
-            return Filled {
+            return ChunkDecoded {
                 kept: t.read,
                 written: t.written,
             };
@@ -94,7 +94,7 @@ pub fn fill(piece: &[u8], room: &mut [u8]) -> Filled
         i = t.read;
         at = t.written;
     }
-    Filled {
+    ChunkDecoded {
         kept: i,
         written: at,
     }

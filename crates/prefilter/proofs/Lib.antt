@@ -1,3 +1,3 @@
 -- Laws on plain values; each function's own file only cites them.
-pub mod Planning
-pub mod Fitting
+pub mod Choosing
+pub mod PairTests

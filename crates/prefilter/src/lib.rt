@@ -1,15 +1,15 @@
-// How to pass over bytes in the opening state of a rule, read off its table and masks before the
-// text is looked at. Which plan is made is a choice of speed; each keeps what it promises.
+// Which bytes a scan may skip in the start state of a rule, read off its table and masks before the text
+// is read. Which prefilter is chosen is a matter of speed; each is sound.
 ghost use mathlib.Core.Path.{_≡_};
 ghost use Prim.Native.Nat.{_-_, _<_, _≤_, _^_};
 ghost use lib.ListN.{length};
-ghost use Rattle.byte_search.specs.Looks.{Missed, meets};
-ghost use Rattle.prefilter.specs.Plans.{Home, Union, Others, Clear, Plain, Fit, Planned};
-use byte_search::index;
+ghost use Rattle.byte_search.specs.BlockTests.{NoneBefore, meets};
+ghost use Rattle.prefilter.specs.Soundness.{StartState, Union, UnionWithout, ClearBit, LiteralPrefix, PairTested, PrefilterSound};
+use byte_search::byte_index;
 
-// Kinds of plan: bytes of the opening state `home` are passed over not at all, or to the next byte
-// whose entry meets `next`, which may be the byte lo, or a byte from lo to hi; or to the next start
-// that has the byte lo at the offset a and hi at b.
+// Kinds of prefilter: in the state `start` nothing is skipped; or all up to the next byte whose entry
+// meets `next`, which may be the byte lo, or a byte from lo to hi; or all up to the next start that has
+// the byte lo at the offset a and hi at b.
 pub const NO_SKIP: u64 = 0;
 
 pub const BY_TABLE: u64 = 1;
@@ -20,9 +20,9 @@ pub const BY_RANGE: u64 = 3;
 
 pub const BY_PAIR: u64 = 4;
 
-pub struct Plan {
+pub struct Prefilter {
     pub kind: u64,
-    pub home: u64,
+    pub start: u64,
     pub next: u64,
     pub lo: u8,
     pub hi: u8,
@@ -30,21 +30,21 @@ pub struct Plan {
     pub b: usize,
 }
 
-// From how many bytes on a plan pays for its making (some 75 ns).
-const PLANS_PAY: usize = 256;
+// From how many bytes on a prefilter pays for its choice (some 75 ns).
+const PREFILTER_PAYS: usize = 256;
 
-// The plan for a text of `len` bytes.
-pub fn plan_of(table: &[u64], repeats: u64, optional: u64, top: u64, len: usize) -> Plan
+// The prefilter for a text of `len` bytes.
+pub fn choose(table: &[u64], repeats: u64, optional: u64, top: u64, len: usize) -> Prefilter
     requires { ⌜ length (now table) ≡ 256 ⌝ }
     requires { ⌜ top < 64 ⌝ }
-    ensures { λ r. ⌜ Planned (now (table .entry)) repeats optional top r ⌝ }
+    ensures { λ r. ⌜ PrefilterSound (now (table .entry)) repeats optional top r ⌝ }
 {
-    let home = shift_and::opening(optional);
-    let next = (home << 1) | (home & repeats);
-    if len < PLANS_PAY {
-        return Plan {
+    let start = shift_and::start_state(optional);
+    let next = (start << 1) | (start & repeats);
+    if len < PREFILTER_PAYS {
+        return Prefilter {
             kind: NO_SKIP,
-            home: home,
+            start: start,
             next: next,
             lo: 0,
             hi: 0,
@@ -52,10 +52,10 @@ pub fn plan_of(table: &[u64], repeats: u64, optional: u64, top: u64, len: usize)
             b: 0,
         };
     }
-    if shift_and::reports(home, top) {
-        return Plan {
+    if shift_and::accepts(start, top) {
+        return Prefilter {
             kind: NO_SKIP,
-            home: home,
+            start: start,
             next: next,
             lo: 0,
             hi: 0,
@@ -63,21 +63,28 @@ pub fn plan_of(table: &[u64], repeats: u64, optional: u64, top: u64, len: usize)
             b: 0,
         };
     }
-    plan_pair(table, repeats, optional, top, home, next)
+    choose_pair(table, repeats, optional, top, start, next)
 }
 
-// A plan by the bytes that leave.
-fn plan_skip(table: &[u64], repeats: u64, optional: u64, top: u64, home: u64, next: u64) -> Plan
+// A prefilter by the bytes that leave the start state.
+fn choose_by_byte(
+    table: &[u64],
+    repeats: u64,
+    optional: u64,
+    top: u64,
+    start: u64,
+    next: u64,
+) -> Prefilter
     requires { ⌜ length (now table) ≡ 256 ⌝ }
-    requires { ⌜ Home repeats optional top home next ⌝ }
-    ensures { λ r. ⌜ Planned (now (table .entry)) repeats optional top r ⌝ }
+    requires { ⌜ StartState repeats optional top start next ⌝ }
+    ensures { λ r. ⌜ PrefilterSound (now (table .entry)) repeats optional top r ⌝ }
 {
-    let lo = first_leaving(table, next);
-    let past = past_leaving(table, next);
+    let lo = first_in_table(table, next);
+    let past = past_last_in_table(table, next);
     if past <= lo {
-        return Plan {
+        return Prefilter {
             kind: BY_TABLE,
-            home: home,
+            start: start,
             next: next,
             lo: 0,
             hi: 0,
@@ -85,10 +92,10 @@ fn plan_skip(table: &[u64], repeats: u64, optional: u64, top: u64, home: u64, ne
             b: 0,
         };
     }
-    if !all_leave(table, next, lo, past) {
-        return Plan {
+    if !all_in_table(table, next, lo, past) {
+        return Prefilter {
             kind: BY_TABLE,
-            home: home,
+            start: start,
             next: next,
             lo: 0,
             hi: 0,
@@ -99,9 +106,9 @@ fn plan_skip(table: &[u64], repeats: u64, optional: u64, top: u64, home: u64, ne
     let first = lo as u8;
     let last = (past - 1) as u8;
     if first == last {
-        return Plan {
+        return Prefilter {
             kind: BY_BYTE,
-            home: home,
+            start: start,
             next: next,
             lo: first,
             hi: first,
@@ -109,9 +116,9 @@ fn plan_skip(table: &[u64], repeats: u64, optional: u64, top: u64, home: u64, ne
             b: 0,
         };
     }
-    Plan {
+    Prefilter {
         kind: BY_RANGE,
-        home: home,
+        start: start,
         next: next,
         lo: first,
         hi: last,
@@ -121,9 +128,9 @@ fn plan_skip(table: &[u64], repeats: u64, optional: u64, top: u64, home: u64, ne
 }
 
 // The first byte whose entry meets `next`, or 256.
-fn first_leaving(table: &[u64], next: u64) -> usize
+fn first_in_table(table: &[u64], next: u64) -> usize
     requires { ⌜ length (now table) ≡ 256 ⌝ }
-    ensures { λ r. ⌜ Missed (meets (now (table .entry)) next) 0 256 r ⌝ }
+    ensures { λ r. ⌜ NoneBefore (meets (now (table .entry)) next) 0 256 r ⌝ }
 {
     let mut c = 0;
     while c < 256 {
@@ -136,9 +143,9 @@ fn first_leaving(table: &[u64], next: u64) -> usize
 }
 
 // One more than the last byte whose entry meets `next`, or 0.
-fn past_leaving(table: &[u64], next: u64) -> usize
+fn past_last_in_table(table: &[u64], next: u64) -> usize
     requires { ⌜ length (now table) ≡ 256 ⌝ }
-    ensures { λ r. ⌜ Missed (meets (now (table .entry)) next) r 256 256 ⌝ }
+    ensures { λ r. ⌜ NoneBefore (meets (now (table .entry)) next) r 256 256 ⌝ }
 {
     let mut c = 256;
     while 0 < c {
@@ -150,9 +157,9 @@ fn past_leaving(table: &[u64], next: u64) -> usize
     c
 }
 
-// Whether every byte from lo up to `past` has an entry that meets `next`. Only a choice hangs on
+// Whether every byte from lo up to `past` has an entry that meets `next`. Only speed depends on
 // it.
-fn all_leave(table: &[u64], next: u64, lo: usize, past: usize) -> bool
+fn all_in_table(table: &[u64], next: u64, lo: usize, past: usize) -> bool
     requires { ⌜ length (now table) ≡ 256 ⌝ }
     requires { ⌜ past ≤ 256 ⌝ }
 {
@@ -166,32 +173,39 @@ fn all_leave(table: &[u64], next: u64, lo: usize, past: usize) -> bool
     true
 }
 
-// A plan by a pair of rare bytes in the plain beginning, or by the bytes that leave.
-fn plan_pair(table: &[u64], repeats: u64, optional: u64, top: u64, home: u64, next: u64) -> Plan
+// A prefilter by a pair of rare bytes in the literal prefix, or by the bytes that leave the start state.
+fn choose_pair(
+    table: &[u64],
+    repeats: u64,
+    optional: u64,
+    top: u64,
+    start: u64,
+    next: u64,
+) -> Prefilter
     requires { ⌜ length (now table) ≡ 256 ⌝ }
     requires { ⌜ top < 64 ⌝ }
-    requires { ⌜ Home repeats optional top home next ⌝ }
-    ensures { λ r. ⌜ Planned (now (table .entry)) repeats optional top r ⌝ }
+    requires { ⌜ StartState repeats optional top start next ⌝ }
+    ensures { λ r. ⌜ PrefilterSound (now (table .entry)) repeats optional top r ⌝ }
 {
-    if home != 1 {
-        return plan_skip(table, repeats, optional, top, home, next);
+    if start != 1 {
+        return choose_by_byte(table, repeats, optional, top, start, next);
     }
-    let free = plain_bits(repeats, optional, top);
+    let free = literal_prefix(repeats, optional, top);
     if u64::count_ones(free) < 2 {
-        return plan_skip(table, repeats, optional, top, home, next);
+        return choose_by_byte(table, repeats, optional, top, start, next);
     }
-    let f = choose(table, free, 0);
+    let f = rarest_byte(table, free, 0);
     let p = f.bit;
     if 62 < p {
-        return plan_skip(table, repeats, optional, top, home, next);
+        return choose_by_byte(table, repeats, optional, top, start, next);
     }
-    let g = choose(table, free & !power(p), f.rank);
-    pair_or_skip(
+    let g = rarest_byte(table, free & !power(p), f.rank);
+    pair_if_sound(
         table,
         repeats,
         optional,
         top,
-        home,
+        start,
         next,
         p,
         g.bit,
@@ -200,9 +214,9 @@ fn plan_pair(table: &[u64], repeats: u64, optional: u64, top: u64, home: u64, ne
     )
 }
 
-// The positions of the plain beginning, those before the first that is optional or repeats. Only a
+// The positions of the literal prefix, those before the first that is optional or repeats. Only a
 // choice: it promises nothing.
-fn plain_bits(repeats: u64, optional: u64, top: u64) -> u64
+fn literal_prefix(repeats: u64, optional: u64, top: u64) -> u64
     requires { ⌜ top < 64 ⌝ }
 {
     let busy = optional | repeats;
@@ -221,22 +235,22 @@ pub struct Choice {
 
 // The bits of `free` that the entry of c has, and neither its neighbours' nor the other case's: a class
 // that c is one of shows there mostly. Only a choice.
-fn lone(table: &[u64], free: u64, c: u8) -> u64
+fn unique_bits(table: &[u64], free: u64, c: u8) -> u64
     requires { ⌜ length (now table) ≡ 256 ⌝ }
 {
-    let e = table[index(c)] & free;
+    let e = table[byte_index(c)] & free;
     if e == 0 {
         return 0;
     }
-    let before = index(std::num::wrapping_sub_u8(c, 1));
-    let after = index(std::num::wrapping_add_u8(c, 1));
-    let other = index(c ^ 32);
+    let before = byte_index(std::num::wrapping_sub_u8(c, 1));
+    let after = byte_index(std::num::wrapping_add_u8(c, 1));
+    let other = byte_index(c ^ 32);
     e & !(table[before] | table[after] | table[other])
 }
 
 // The rarest byte in common text, from a rank on, that seems to stand alone at a position of `free`, and
 // the lowest such; bit 64 if there is none. Only a choice: it promises nothing.
-fn choose(table: &[u64], free: u64, rank: usize) -> Choice
+fn rarest_byte(table: &[u64], free: u64, rank: usize) -> Choice
     requires { ⌜ length (now table) ≡ 256 ⌝ }
 {
     let rare =
@@ -244,7 +258,7 @@ fn choose(table: &[u64], free: u64, rank: usize) -> Choice
     let mut r = rank;
     while r < rare.len() {
         let c = rare[r];
-        let e = lone(table, free, c);
+        let e = unique_bits(table, free, c);
         if e != 0 {
             return Choice {
                 rank: r,
@@ -261,52 +275,52 @@ fn choose(table: &[u64], free: u64, rank: usize) -> Choice
     }
 }
 
-// A plan by the positions p and q with their bytes, in whichever order they stand, if they fit.
-fn pair_or_skip(
+// A prefilter by the positions p and q with their bytes, in whichever order they stand, if that is sound.
+fn pair_if_sound(
     table: &[u64],
     repeats: u64,
     optional: u64,
     top: u64,
-    home: u64,
+    start: u64,
     next: u64,
     p: u32,
     q: u32,
     x: u8,
     y: u8,
-) -> Plan
+) -> Prefilter
     requires { ⌜ length (now table) ≡ 256 ⌝ }
-    requires { ⌜ Home repeats optional top home next ⌝ }
-    requires { ⌜ home ≡ 1 ⌝ }
-    ensures { λ r. ⌜ Planned (now (table .entry)) repeats optional top r ⌝ }
+    requires { ⌜ StartState repeats optional top start next ⌝ }
+    requires { ⌜ start ≡ 1 ⌝ }
+    ensures { λ r. ⌜ PrefilterSound (now (table .entry)) repeats optional top r ⌝ }
 {
     if p < q {
-        return pair_in_order(table, repeats, optional, top, home, next, p, q, x, y);
+        return pair_ordered(table, repeats, optional, top, start, next, p, q, x, y);
     }
-    pair_in_order(table, repeats, optional, top, home, next, q, p, y, x)
+    pair_ordered(table, repeats, optional, top, start, next, q, p, y, x)
 }
 
 // The same where p is to come first.
-fn pair_in_order(
+fn pair_ordered(
     table: &[u64],
     repeats: u64,
     optional: u64,
     top: u64,
-    home: u64,
+    start: u64,
     next: u64,
     p: u32,
     q: u32,
     x: u8,
     y: u8,
-) -> Plan
+) -> Prefilter
     requires { ⌜ length (now table) ≡ 256 ⌝ }
-    requires { ⌜ Home repeats optional top home next ⌝ }
-    requires { ⌜ home ≡ 1 ⌝ }
-    ensures { λ r. ⌜ Planned (now (table .entry)) repeats optional top r ⌝ }
+    requires { ⌜ StartState repeats optional top start next ⌝ }
+    requires { ⌜ start ≡ 1 ⌝ }
+    ensures { λ r. ⌜ PrefilterSound (now (table .entry)) repeats optional top r ⌝ }
 {
-    if fits(table, repeats, optional, top, p, q, x, y) {
-        return Plan {
+    if pair_is_sound(table, repeats, optional, top, p, q, x, y) {
+        return Prefilter {
             kind: BY_PAIR,
-            home: home,
+            start: start,
             next: next,
             lo: x,
             hi: y,
@@ -314,7 +328,7 @@ fn pair_in_order(
             b: offset(q),
         };
     }
-    plan_skip(table, repeats, optional, top, home, next)
+    choose_by_byte(table, repeats, optional, top, start, next)
 }
 
 // A position's offset from the start.
@@ -327,20 +341,29 @@ fn offset(p: u32) -> usize
     (p - 1) as usize
 }
 
-// Whether the bits p and q are those of two positions with one byte each, x and y, in a plain
-// beginning.
-fn fits(table: &[u64], repeats: u64, optional: u64, top: u64, p: u32, q: u32, x: u8, y: u8) -> bool
+// Whether the bits p and q are those of two positions with one byte each, x and y, in a literal
+// prefix.
+fn pair_is_sound(
+    table: &[u64],
+    repeats: u64,
+    optional: u64,
+    top: u64,
+    p: u32,
+    q: u32,
+    x: u8,
+    y: u8,
+) -> bool
     requires { ⌜ length (now table) ≡ 256 ⌝ }
-    ensures { λ r. ⌜ Fit (now (table .entry)) repeats optional top p q x y r ⌝ }
+    ensures { λ r. ⌜ PairTested (now (table .entry)) repeats optional top p q x y r ⌝ }
 {
-    if !plain(repeats, optional, top, p, q) {
+    if !is_literal_prefix(repeats, optional, top, p, q) {
         return false;
     }
-    let rest = others(table, x, y);
-    if !clear(table, rest, p, y) {
+    let rest = union_without(table, x, y);
+    if !is_clear(table, rest, p, y) {
         return false;
     }
-    clear(table, rest, q, x)
+    is_clear(table, rest, q, x)
 }
 
 // The bits of the entries from lo up to hi.
@@ -359,11 +382,11 @@ fn union(table: &[u64], lo: usize, hi: usize) -> u64
 }
 
 // The bits of all the entries but two.
-fn others_in_order(table: &[u64], lo: usize, hi: usize) -> u64
+fn union_without_ordered(table: &[u64], lo: usize, hi: usize) -> u64
     requires { ⌜ length (now table) ≡ 256 ⌝ }
     requires { ⌜ lo ≤ hi ⌝ }
     requires { ⌜ hi < 256 ⌝ }
-    ensures { λ r. ⌜ Others (now (table .entry)) lo hi r ⌝ }
+    ensures { λ r. ⌜ UnionWithout (now (table .entry)) lo hi r ⌝ }
 {
     let u = union(table, 0, lo);
     let v = union(table, lo + 1, hi);
@@ -372,22 +395,22 @@ fn others_in_order(table: &[u64], lo: usize, hi: usize) -> u64
 }
 
 // The same in any order.
-fn others(table: &[u64], x: u8, y: u8) -> u64
+fn union_without(table: &[u64], x: u8, y: u8) -> u64
     requires { ⌜ length (now table) ≡ 256 ⌝ }
-    ensures { λ r. ⌜ Others (now (table .entry)) x y r ⌝ }
+    ensures { λ r. ⌜ UnionWithout (now (table .entry)) x y r ⌝ }
 {
-    let i = index(x);
-    let j = index(y);
+    let i = byte_index(x);
+    let j = byte_index(y);
     if i < j {
-        return others_in_order(table, i, j);
+        return union_without_ordered(table, i, j);
     }
-    others_in_order(table, j, i)
+    union_without_ordered(table, j, i)
 }
 
-// Whether the positions up to q are plain (neither optional nor repeating), no end is reported
+// Whether the positions up to q are is_literal_prefix (neither optional nor repeating), no end is reported
 // below q, and p is a position before it.
-fn plain(repeats: u64, optional: u64, top: u64, p: u32, q: u32) -> bool
-    ensures { λ r. ⌜ Plain repeats optional top p q r ⌝ }
+fn is_literal_prefix(repeats: u64, optional: u64, top: u64, p: u32, q: u32) -> bool
+    ensures { λ r. ⌜ LiteralPrefix repeats optional top p q r ⌝ }
 {
     if p < 1 {
         return false;
@@ -398,7 +421,7 @@ fn plain(repeats: u64, optional: u64, top: u64, p: u32, q: u32) -> bool
     if 62 < q {
         return false;
     }
-    let low = below(q + 1);
+    let low = bits_below(q + 1);
     if (optional | repeats) & low != 0 {
         return false;
     }
@@ -406,14 +429,14 @@ fn plain(repeats: u64, optional: u64, top: u64, p: u32, q: u32) -> bool
 }
 
 // Whether neither `rest` nor the entry of y has bit p.
-fn clear(table: &[u64], rest: u64, p: u32, y: u8) -> bool
+fn is_clear(table: &[u64], rest: u64, p: u32, y: u8) -> bool
     requires { ⌜ length (now table) ≡ 256 ⌝ }
-    ensures { λ r. ⌜ Clear (now (table .entry)) rest p y r ⌝ }
+    ensures { λ r. ⌜ ClearBit (now (table .entry)) rest p y r ⌝ }
 {
     if 63 < p {
         return false;
     }
-    let e = table[index(y)];
+    let e = table[byte_index(y)];
     (rest | e) & power(p) == 0
 }
 
@@ -425,7 +448,7 @@ fn power(p: u32) -> u64
 }
 
 // The bits below p.
-fn below(p: u32) -> u64
+fn bits_below(p: u32) -> u64
     requires { ⌜ p < 64 ⌝ }
     ensures { λ r. ⌜ r ≡ 2 ^ p - 1 ⌝ }
 {

@@ -1,42 +1,42 @@
-// Looks, made as those of `byte_search`, by the tests of a plan: a byte that leaves a state by its table, a
-// byte of a range, a start that has a pair of bytes. A run passes over what they do not pick out.
+// The next candidate by the tests of a prefilter, found as `byte_search` finds a byte: a byte whose table
+// entry meets a mask, a byte of a range, a start that has a pair of bytes. A scan skips what lies before it.
 ghost use mathlib.Core.Path.{_≡_};
 ghost use Prim.Native.Nat.{_+_, _<_, _≤_};
 ghost use lib.ListN.{length};
-ghost use Rattle.byte_search.specs.Looks.{Looked, Missed};
-ghost use Rattle.prefilter_search.specs.Lookouts.{leaves, between, pairAt};
-use byte_search::index;
-use byte_search::look_at;
-use byte_search::nearer;
-use byte_search::placed;
+ghost use Rattle.byte_search.specs.BlockTests.{BlockTested, NoneBefore};
+ghost use Rattle.prefilter_search.specs.Candidates.{inTable, inRange, pairAt};
+use byte_search::block_start;
+use byte_search::byte_index;
+use byte_search::lane_or_end;
+use byte_search::min;
 
-// ---- a byte that leaves the state that `next` belongs to
+// ---- a byte whose entry meets the mask `next`
 
-// Whether one of the 8 bytes from i on leaves it.
-fn any_leaves(table: &[u64], next: u64, text: &[u8], i: usize) -> bool
+// Whether one of the 8 bytes from i on is such.
+fn block_has_in_table(table: &[u64], next: u64, text: &[u8], i: usize) -> bool
     requires { ⌜ length (now table) ≡ 256 ⌝ }
     requires { ⌜ i + 8 ≤ length (now text) ⌝ }
-    ensures { λ r. ⌜ Looked (leaves (now (table .entry)) next (now (text .entry))) i 8 r ⌝ }
+    ensures { λ r. ⌜ BlockTested (inTable (now (table .entry)) next (now (text .entry))) i 8 r ⌝ }
 {
     let mut z = false;
     let mut j = 0;
     while j < 8 {
-        let c = index(text[i + j]);
+        let c = byte_index(text[i + j]);
         z = z | (table[c] & next != 0);
         j += 1;
     }
     z
 }
 
-// No byte up to there leaves: by eights.
-fn skim_leaving(table: &[u64], next: u64, text: &[u8], i: usize) -> usize
+// Skips blocks of 8 bytes that have none.
+fn skip_blocks_in_table(table: &[u64], next: u64, text: &[u8], i: usize) -> usize
     requires { ⌜ length (now table) ≡ 256 ⌝ }
     requires { ⌜ i ≤ length (now text) ⌝ }
-    ensures { λ r. ⌜ Missed (leaves (now (table .entry)) next (now (text .entry))) i (length (now (text .entry))) r ⌝ }
+    ensures { λ r. ⌜ NoneBefore (inTable (now (table .entry)) next (now (text .entry))) i (length (now (text .entry))) r ⌝ }
 {
     let mut i = i;
     while 8 <= text.len() - i {
-        if any_leaves(table, next, text, i) {
+        if block_has_in_table(table, next, text, i) {
             return i;
         }
         i += 8;
@@ -44,15 +44,15 @@ fn skim_leaving(table: &[u64], next: u64, text: &[u8], i: usize) -> usize
     i
 }
 
-// The next byte that leaves, byte by byte, or the text's end.
-fn crawl_leaving(table: &[u64], next: u64, text: &[u8], i: usize) -> usize
+// The next such byte, byte by byte, or the text's end.
+fn find_in_table_bytewise(table: &[u64], next: u64, text: &[u8], i: usize) -> usize
     requires { ⌜ length (now table) ≡ 256 ⌝ }
     requires { ⌜ i ≤ length (now text) ⌝ }
-    ensures { λ r. ⌜ Missed (leaves (now (table .entry)) next (now (text .entry))) i (length (now (text .entry))) r ⌝ }
+    ensures { λ r. ⌜ NoneBefore (inTable (now (table .entry)) next (now (text .entry))) i (length (now (text .entry))) r ⌝ }
 {
     let mut i = i;
     while i < text.len() {
-        let c = index(text[i]);
+        let c = byte_index(text[i]);
         if table[c] & next != 0 {
             return i;
         }
@@ -61,22 +61,22 @@ fn crawl_leaving(table: &[u64], next: u64, text: &[u8], i: usize) -> usize
     i
 }
 
-// The next byte that leaves, by table, or the text's end.
-pub fn find_leaving(table: &[u64], next: u64, text: &[u8], i: usize) -> usize
+// The next such byte, or the text's end.
+pub fn find_in_table(table: &[u64], next: u64, text: &[u8], i: usize) -> usize
     requires { ⌜ length (now table) ≡ 256 ⌝ }
     requires { ⌜ i ≤ length (now text) ⌝ }
-    ensures { λ r. ⌜ Missed (leaves (now (table .entry)) next (now (text .entry))) i (length (now (text .entry))) r ⌝ }
+    ensures { λ r. ⌜ NoneBefore (inTable (now (table .entry)) next (now (text .entry))) i (length (now (text .entry))) r ⌝ }
 {
-    let j = skim_leaving(table, next, text, i);
-    crawl_leaving(table, next, text, j)
+    let j = skip_blocks_in_table(table, next, text, i);
+    find_in_table_bytewise(table, next, text, j)
 }
 
 // ---- a byte from lo to hi
 
 // Whether one of the 64 bytes from i on is from lo to hi.
-fn any_between(text: &[u8], lo: u8, hi: u8, i: usize) -> bool
+fn block_has_in_range(text: &[u8], lo: u8, hi: u8, i: usize) -> bool
     requires { ⌜ i + 64 ≤ length (now text) ⌝ }
-    ensures { λ r. ⌜ Looked (between (now (text .entry)) lo hi) i 64 r ⌝ }
+    ensures { λ r. ⌜ BlockTested (inRange (now (text .entry)) lo hi) i 64 r ⌝ }
 {
     let mut z = false;
     let mut j = 0;
@@ -88,26 +88,26 @@ fn any_between(text: &[u8], lo: u8, hi: u8, i: usize) -> bool
 }
 
 // The first of them, or the place after them.
-fn first_between(text: &[u8], lo: u8, hi: u8, i: usize) -> usize
+fn first_in_range(text: &[u8], lo: u8, hi: u8, i: usize) -> usize
     requires { ⌜ i + 64 ≤ length (now text) ⌝ }
-    ensures { λ r. ⌜ Missed (between (now (text .entry)) lo hi) i (i + 64) r ⌝ }
+    ensures { λ r. ⌜ NoneBefore (inRange (now (text .entry)) lo hi) i (i + 64) r ⌝ }
 {
     let mut f: u8 = 64;
     let mut j: u8 = 0;
     while j < 64 {
         let k = j as usize;
         let hit = (lo <= text[i + k]) & (text[i + k] <= hi);
-        f = nearer(f, placed(hit, j));
+        f = min(f, lane_or_end(hit, j));
         j += 1;
     }
     i + f as usize
 }
 
-// None up to there: by sixty-fours, the last look over the last 64 places.
-fn skim_between(text: &[u8], lo: u8, hi: u8, i: usize, end: usize) -> usize
+// Skips blocks of 64 that have none, the last block being the last 64 places.
+fn skip_blocks_in_range(text: &[u8], lo: u8, hi: u8, i: usize, end: usize) -> usize
     requires { ⌜ end ≤ length (now text) ⌝ }
     requires { ⌜ i ≤ end ⌝ }
-    ensures { λ r. ⌜ Missed (between (now (text .entry)) lo hi) i end r ⌝ }
+    ensures { λ r. ⌜ NoneBefore (inRange (now (text .entry)) lo hi) i end r ⌝ }
 {
     if end < 64 {
         return i;
@@ -115,8 +115,8 @@ fn skim_between(text: &[u8], lo: u8, hi: u8, i: usize, end: usize) -> usize
     let last = end - 64;
     let mut i = i;
     while i < end {
-        let at = look_at(i, last);
-        if any_between(text, lo, hi, at) {
+        let at = block_start(i, last);
+        if block_has_in_range(text, lo, hi, at) {
             return i;
         }
         i = at + 64;
@@ -125,10 +125,10 @@ fn skim_between(text: &[u8], lo: u8, hi: u8, i: usize, end: usize) -> usize
 }
 
 // The next one, byte by byte, or `end`.
-fn crawl_between(text: &[u8], lo: u8, hi: u8, i: usize, end: usize) -> usize
+fn find_in_range_bytewise(text: &[u8], lo: u8, hi: u8, i: usize, end: usize) -> usize
     requires { ⌜ end ≤ length (now text) ⌝ }
     requires { ⌜ i ≤ end ⌝ }
-    ensures { λ r. ⌜ Missed (between (now (text .entry)) lo hi) i end r ⌝ }
+    ensures { λ r. ⌜ NoneBefore (inRange (now (text .entry)) lo hi) i end r ⌝ }
 {
     let mut i = i;
     while i < end {
@@ -141,32 +141,32 @@ fn crawl_between(text: &[u8], lo: u8, hi: u8, i: usize, end: usize) -> usize
 }
 
 // The next one, or `end`, where it is likely to be far.
-fn far_between(text: &[u8], lo: u8, hi: u8, i: usize, end: usize) -> usize
+fn find_in_range_far(text: &[u8], lo: u8, hi: u8, i: usize, end: usize) -> usize
     requires { ⌜ end ≤ length (now text) ⌝ }
     requires { ⌜ i ≤ end ⌝ }
-    ensures { λ r. ⌜ Missed (between (now (text .entry)) lo hi) i end r ⌝ }
+    ensures { λ r. ⌜ NoneBefore (inRange (now (text .entry)) lo hi) i end r ⌝ }
 {
-    let j = skim_between(text, lo, hi, i, end);
+    let j = skip_blocks_in_range(text, lo, hi, i, end);
     if end - j < 64 {
-        return crawl_between(text, lo, hi, j, end);
+        return find_in_range_bytewise(text, lo, hi, j, end);
     }
-    first_between(text, lo, hi, j)
+    first_in_range(text, lo, hi, j)
 }
 
-// The next one, or `end`: the first look tells its place too.
-pub fn find_between(text: &[u8], lo: u8, hi: u8, i: usize, end: usize) -> usize
+// The next one, or `end`: the first block tells its place at once.
+pub fn find_in_range(text: &[u8], lo: u8, hi: u8, i: usize, end: usize) -> usize
     requires { ⌜ end ≤ length (now text) ⌝ }
     requires { ⌜ i ≤ end ⌝ }
-    ensures { λ r. ⌜ Missed (between (now (text .entry)) lo hi) i end r ⌝ }
+    ensures { λ r. ⌜ NoneBefore (inRange (now (text .entry)) lo hi) i end r ⌝ }
 {
     if end - i < 64 {
-        return far_between(text, lo, hi, i, end);
+        return find_in_range_far(text, lo, hi, i, end);
     }
-    let j = first_between(text, lo, hi, i);
+    let j = first_in_range(text, lo, hi, i);
     if j - i < 64 {
         return j;
     }
-    far_between(text, lo, hi, j, end)
+    find_in_range_far(text, lo, hi, j, end)
 }
 
 // ---- a start that has the byte x at the offset a and y at b
@@ -180,10 +180,10 @@ fn is_pair(text: &[u8], a: usize, b: usize, x: u8, y: u8, i: usize) -> bool
 }
 
 // Whether one of the 64 starts from i on has them.
-fn any_pair(text: &[u8], a: usize, b: usize, x: u8, y: u8, i: usize) -> bool
+fn block_has_pair(text: &[u8], a: usize, b: usize, x: u8, y: u8, i: usize) -> bool
     requires { ⌜ a < b ⌝ }
     requires { ⌜ i + 64 + b ≤ length (now text) ⌝ }
-    ensures { λ r. ⌜ Looked (pairAt (now (text .entry)) a b x y) i 64 r ⌝ }
+    ensures { λ r. ⌜ BlockTested (pairAt (now (text .entry)) a b x y) i 64 r ⌝ }
 {
     let mut z = false;
     let mut j = 0;
@@ -198,25 +198,25 @@ fn any_pair(text: &[u8], a: usize, b: usize, x: u8, y: u8, i: usize) -> bool
 fn first_pair(text: &[u8], a: usize, b: usize, x: u8, y: u8, i: usize) -> usize
     requires { ⌜ a < b ⌝ }
     requires { ⌜ i + 64 + b ≤ length (now text) ⌝ }
-    ensures { λ r. ⌜ Missed (pairAt (now (text .entry)) a b x y) i (i + 64) r ⌝ }
+    ensures { λ r. ⌜ NoneBefore (pairAt (now (text .entry)) a b x y) i (i + 64) r ⌝ }
 {
     let mut f: u8 = 64;
     let mut j: u8 = 0;
     while j < 64 {
         let k = j as usize;
         let hit = is_pair(text, a, b, x, y, i + k);
-        f = nearer(f, placed(hit, j));
+        f = min(f, lane_or_end(hit, j));
         j += 1;
     }
     i + f as usize
 }
 
-// None up to there: by sixty-fours, the last look over the last 64 places.
-fn skim_pair(text: &[u8], a: usize, b: usize, x: u8, y: u8, i: usize, end: usize) -> usize
+// Skips blocks of 64 that have none, the last block being the last 64 places.
+fn skip_blocks_pair(text: &[u8], a: usize, b: usize, x: u8, y: u8, i: usize, end: usize) -> usize
     requires { ⌜ a < b ⌝ }
     requires { ⌜ end + b ≤ length (now text) ⌝ }
     requires { ⌜ i ≤ end ⌝ }
-    ensures { λ r. ⌜ Missed (pairAt (now (text .entry)) a b x y) i end r ⌝ }
+    ensures { λ r. ⌜ NoneBefore (pairAt (now (text .entry)) a b x y) i end r ⌝ }
 {
     if end < 64 {
         return i;
@@ -224,8 +224,8 @@ fn skim_pair(text: &[u8], a: usize, b: usize, x: u8, y: u8, i: usize, end: usize
     let last = end - 64;
     let mut i = i;
     while i < end {
-        let at = look_at(i, last);
-        if any_pair(text, a, b, x, y, at) {
+        let at = block_start(i, last);
+        if block_has_pair(text, a, b, x, y, at) {
             return i;
         }
         i = at + 64;
@@ -234,11 +234,11 @@ fn skim_pair(text: &[u8], a: usize, b: usize, x: u8, y: u8, i: usize, end: usize
 }
 
 // The next one, byte by byte, or `end`.
-fn crawl_pair(text: &[u8], a: usize, b: usize, x: u8, y: u8, i: usize, end: usize) -> usize
+fn find_pair_bytewise(text: &[u8], a: usize, b: usize, x: u8, y: u8, i: usize, end: usize) -> usize
     requires { ⌜ a < b ⌝ }
     requires { ⌜ end + b ≤ length (now text) ⌝ }
     requires { ⌜ i ≤ end ⌝ }
-    ensures { λ r. ⌜ Missed (pairAt (now (text .entry)) a b x y) i end r ⌝ }
+    ensures { λ r. ⌜ NoneBefore (pairAt (now (text .entry)) a b x y) i end r ⌝ }
 {
     let mut i = i;
     while i < end {
@@ -251,32 +251,32 @@ fn crawl_pair(text: &[u8], a: usize, b: usize, x: u8, y: u8, i: usize, end: usiz
 }
 
 // The next one, or `end`, where it is likely to be far.
-fn far_pair(text: &[u8], a: usize, b: usize, x: u8, y: u8, i: usize, end: usize) -> usize
+fn find_pair_far(text: &[u8], a: usize, b: usize, x: u8, y: u8, i: usize, end: usize) -> usize
     requires { ⌜ a < b ⌝ }
     requires { ⌜ end + b ≤ length (now text) ⌝ }
     requires { ⌜ i ≤ end ⌝ }
-    ensures { λ r. ⌜ Missed (pairAt (now (text .entry)) a b x y) i end r ⌝ }
+    ensures { λ r. ⌜ NoneBefore (pairAt (now (text .entry)) a b x y) i end r ⌝ }
 {
-    let j = skim_pair(text, a, b, x, y, i, end);
+    let j = skip_blocks_pair(text, a, b, x, y, i, end);
     if end - j < 64 {
-        return crawl_pair(text, a, b, x, y, j, end);
+        return find_pair_bytewise(text, a, b, x, y, j, end);
     }
     first_pair(text, a, b, x, y, j)
 }
 
-// The next one, or `end`: the first look tells its place too.
+// The next one, or `end`: the first block tells its place at once.
 pub fn find_pair(text: &[u8], a: usize, b: usize, x: u8, y: u8, i: usize, end: usize) -> usize
     requires { ⌜ a < b ⌝ }
     requires { ⌜ end + b ≤ length (now text) ⌝ }
     requires { ⌜ i ≤ end ⌝ }
-    ensures { λ r. ⌜ Missed (pairAt (now (text .entry)) a b x y) i end r ⌝ }
+    ensures { λ r. ⌜ NoneBefore (pairAt (now (text .entry)) a b x y) i end r ⌝ }
 {
     if end - i < 64 {
-        return far_pair(text, a, b, x, y, i, end);
+        return find_pair_far(text, a, b, x, y, i, end);
     }
     let j = first_pair(text, a, b, x, y, i);
     if j - i < 64 {
         return j;
     }
-    far_pair(text, a, b, x, y, j, end)
+    find_pair_far(text, a, b, x, y, j, end)
 }

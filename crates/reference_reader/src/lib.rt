@@ -6,9 +6,7 @@ ghost use lib.ListN.{length, getD};
 ghost use Rattle.model.specs.References.{formLimit, isChar, legal};
 ghost use Rattle.reference_reader.specs.Reader.{codeLimit, MatchIs, DigitIs, Saturated, baseOf, readAs, numberReading, NamePlace, NumberPlace, ReadIs};
 ghost use Rattle.reference_reader.specs.Utf8.{PutFine, Put};
-
-// "at most 10 bytes from `&` to `;`"
-pub const FORM_LIMIT: usize = 10;
+use limits::FORM_LIMIT;
 
 // What stands at the front of some bytes. `Decoded`: a legal reference, its code point and how many
 // bytes spell it. `Literal`: none, so that the first byte stays. `Incomplete`: all the bytes are the

@@ -82,9 +82,6 @@ pub struct ElementResult {
     pub set: [u64; 4],
 }
 
-// "A rule has at most 63" positions.
-pub const POSITION_LIMIT: u32 = 63;
-
 // The byte at i, and 0 past the end: a caller needs no proof that i is within.
 fn peek(s: &[u8], i: usize) -> u8
     ensures { λ r. ⌜ r ≡ getD (now (s .entry)) i 0 ⌝ }
@@ -476,7 +473,7 @@ pub fn read_element(rule: &[u8], at: usize, fold: bool, used: u32) -> ElementRes
             return no_element(number);
         }
         KindAnswer::Spelt(kind, after) => {
-            if POSITION_LIMIT - used < size(kind) {
+            if limits::POSITION_LIMIT - used < size(kind) {
                 return no_element(7);
             }
             let often = read_often(rule, kind, after);

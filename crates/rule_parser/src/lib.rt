@@ -7,13 +7,11 @@ ghost use Rattle.model.specs.RuleText.{foldFlag, ruleLimit, positionLimit};
 ghost use Rattle.rule_element.specs.Reading.{KindFits, sizeOf};
 ghost use Rattle.rule_parser.specs.Gathering.{optionalBit, repeatBit, optionalBits, repeatBits, placedOn, Fits, gainedBy, ReadsRule};
 ghost use Rattle.rule_parser.specs.Preparing.{refusalOf, Prepares};
+use limits::RULE_LIMIT;
 use rule_element::Element;
 use rule_element::ElementAnswer;
 use rule_element::Kind;
 use rule_element::Often;
-
-// "A rule is 1 to 255 bytes".
-pub const RULE_LIMIT: usize = 255;
 
 // A rule's answer: number 0 and place 0, the count of its positions, its shortest length, and the
 // masks of the positions that are optional and that repeat. Or the number and place of the refusal,

@@ -52,10 +52,10 @@ fn admit_byte(table: &mut [u64], b: u8, fold: bool, bits: u64)
     requires { ⌜ length (now table) ≡ 256 ⌝ }
     ensures { λ r. ⌜ Gains (hasByte fold b) bits (now (table .entry)) (now (table .exit)) ⌝ }
 {
-    let i = byte_search::index(b);
+    let i = byte_search::byte_index(b);
     let own = table[i] | bits;
     if fold {
-        let o = byte_search::index(byte_set::other_case(i));
+        let o = byte_search::byte_index(byte_set::other_case(i));
         table[o] = table[o] | bits;
         table[i] = own;
         return;

@@ -16,7 +16,7 @@ use Rattle.piece_decoder.specs.declared.held.Held.{Held}
 use Rattle.decoder.specs.Decoder.{refusing, counting}
 use Rattle.piece_decoder.specs.Held.{heldOf, HeldFine}
 use Rattle.shift_and_step.specs.declared.Masks.{Masks}
-use Rattle.scan_piece.specs.declared.State.{State}
+use Rattle.scan_piece.specs.declared.Progress.{Progress}
 use Rattle.scan_piece.specs.declared.Fed.{Fed}
 use Rattle.scan_piece.specs.Feeding.{textOf, tailOf, Stepped, FedIs}
 use Rattle.scan_value.specs.Value.{tableIn, masksIn, rawIn, decodedIn, heldIn, LoadFine, LoadIs, Fine, RefusedIs, written}
@@ -24,17 +24,17 @@ use Rattle.scan.specs.Calls.{startOf, numberOf, outOf, tailAfter, finish
 
 module _ (s : List ℕ) (p n : ℕ) (fine : Fine s p n) where
   pub can-load : LoadFine s
-  can-load = let q = fine .possible in record { long = q .long; nine = q .nine; bytes = q .bytes }
+  can-load = let q = fine .possible in record { long = q .long; few = q .few; bytes = q .bytes }
 
   module _ (l : Held) (x : LoadIs s l) where
     pub held-fine : HeldFine l
     held-fine = let q = fine .possible in let e = x .is in record { few = x .few; tail = rw e (q .tail) }
 
     pub fits : (l .len + p ≤ n) × (decodedIn s + l .len + p < 2 ^ 32)
-    fits = let q = fine .possible in (omega (arith, fine .room, q .nine, x .size), omega (arith, fine .small, q .sum, x .size))
+    fits = let q = fine .possible in (omega (arith, fine .room, q .few, x .size), omega (arith, fine .small, q .sum, x .size))
 
 -- stepping from a scan value's state over what a call lets out, said of the value
-module _ (s ends : List ℕ) (c : Call) (u : State) (ends′ : List ℕ) (x : Stepped (tableIn s) (masksIn s) (startOf s) (outOf s c) ends u ends′) where
+module _ (s ends : List ℕ) (c : Call) (u : Progress) (ends′ : List ℕ) (x : Stepped (tableIn s) (masksIn s) (startOf s) (outOf s c) ends u ends′) where
   ends-are : length (outOf s c) ≤ length ends → ends′ ≡ overwrite ends (endsOf s c)
   ends-are h =
       let n = x .count in
@@ -45,12 +45,12 @@ module _ (s ends : List ℕ) (c : Call) (u : State) (ends′ : List ℕ) (x : St
       → Taken s c ends (counting (u .count)) s′ ends′
   taken h s′ e = record { answers = ap counting (x .count ∙ zero-add _); leaves = e ∙ rw (x .state, x .place); lists = ends-are h }
 
-same-start : (s ends : List ℕ) (m : Masks) → m ≡ masksIn s → (g : State) → g ≡ startOf s → (out : List ℕ) (u : State) (ends′ : List ℕ) → Stepped (tableIn s) m g out ends u ends′
+same-start : (s ends : List ℕ) (m : Masks) → m ≡ masksIn s → (g : Progress) → g ≡ startOf s → (out : List ℕ) (u : Progress) (ends′ : List ℕ) → Stepped (tableIn s) m g out ends u ends′
     → Stepped (tableIn s) (masksIn s) (startOf s) out ends u ends′
-same-start s ends m em g eg out u ends′ y = subst (λ (k : Masks). Stepped (tableIn s) k (startOf s) out ends u ends′) em (subst (λ (h : State). Stepped (tableIn s) m h out ends u ends′) eg y)
+same-start s ends m em g eg out u ends′ y = subst (λ (k : Masks). Stepped (tableIn s) k (startOf s) out ends u ends′) em (subst (λ (h : Progress). Stepped (tableIn s) m h out ends u ends′) eg y)
 
 -- `feed_accepted`
-module _ (s piece ends : List ℕ) (fine : Fine s (length piece) (length ends)) (m : Masks) (em : m ≡ masksIn s) (g : State) (eg : g ≡ startOf s) (l : Held) (x : LoadIs s l) where
+module _ (s piece ends : List ℕ) (fine : Fine s (length piece) (length ends)) (m : Masks) (em : m ≡ masksIn s) (g : Progress) (eg : g ≡ startOf s) (l : Held) (x : LoadIs s l) where
   pub feed-stored : (f : Fed) (ends′ : List ℕ) → FedIs (tableIn s) m g l piece ends f ends′ → (s′ : List ℕ)
       → s′ ≡ written s (f .state .d) 0 (rawIn s + length piece) (f .state .at) (heldOf (f .held))
       → Taken s (feed piece (length ends)) ends (counting (f .state .count)) s′ ends′
@@ -68,14 +68,14 @@ module _ (s piece ends : List ℕ) (fine : Fine s (length piece) (length ends)) 
   feed-count f ends′ y =
       let q = fine .possible in
       let a = y .steps .few in
-      omega (arith, y .few, x .size, q .sum, fine .small, ap (λ (h : State). h .count) eg)
+      omega (arith, y .few, x .size, q .sum, fine .small, ap (λ (h : Progress). h .count) eg)
 
 -- `finish_accepted`
-module _ (s ends : List ℕ) (fine : Fine s 0 (length ends)) (m : Masks) (em : m ≡ masksIn s) (g : State) (eg : g ≡ startOf s) (l : Held) (x : LoadIs s l) where
+module _ (s ends : List ℕ) (fine : Fine s 0 (length ends)) (m : Masks) (em : m ≡ masksIn s) (g : Progress) (eg : g ≡ startOf s) (l : Held) (x : LoadIs s l) where
   pub l-long : length (heldOf l) ≡ l .len
   l-long = length-take-le (l .len) (l .bytes) (omega (arith, x .few, x .long))
 
-  pub finish-stored : (u : State) (ends′ : List ℕ) → Stepped (tableIn s) m g (heldOf l) ends u ends′ → (s′ : List ℕ)
+  pub finish-stored : (u : Progress) (ends′ : List ℕ) → Stepped (tableIn s) m g (heldOf l) ends u ends′ → (s′ : List ℕ)
       → s′ ≡ written s (u .d) 1 (rawIn s) (u .at) [] → Taken s (finish (length ends)) ends (counting (u .count)) s′ ends′
   finish-stored u ends′ y s′ e =
       let r = fine .room in
@@ -84,8 +84,8 @@ module _ (s ends : List ℕ) (fine : Fine s 0 (length ends)) (m : Masks) (em : m
       taken s ends (finish (length ends)) u ends′ w (omega (arith, ap length (x .is), l-long, x .few)) s′
       (e ∙ ap (λ (r : ℕ). written s (u .d) 1 r (u .at) []) (sym (add-zero (rawIn s))))
 
-  pub finish-count : (u : State) (ends′ : List ℕ) → Stepped (tableIn s) m g (heldOf l) ends u ends′ → u .count < 2 ^ 32
-  finish-count u ends′ y = let a = y .few in omega (arith, l-long, x .few, ap (λ (h : State). h .count) eg)
+  pub finish-count : (u : Progress) (ends′ : List ℕ) → Stepped (tableIn s) m g (heldOf l) ends u ends′ → u .count < 2 ^ 32
+  finish-count u ends′ y = let a = y .few in omega (arith, l-long, x .few, ap (λ (h : Progress). h .count) eg)
 
 -- `feed` and `finish`
 module _ (s ends : List ℕ) (c : Call) (k : ℕ) (f : RefusedIs s (length (pieceOf c)) (listOf c) k) where

@@ -58,9 +58,9 @@ tail-tail : (xs : List ℕ) → heldTail formLimit (tailOf xs) ≡ tailOf xs
 unfolding tailOf
 tail-tail xs = sym (ap (heldTail formLimit) (sym (append-nil xs)) ∙ held-cut formLimit xs [] ∙ ap (heldTail formLimit) (append-nil (heldTail formLimit xs)))
 
-tail-nine : (xs : List ℕ) → length (tailOf xs) ≤ heldMost formLimit
+tail-few : (xs : List ℕ) → length (tailOf xs) ≤ heldMost formLimit
 unfolding tailOf
-tail-nine xs = held-length formLimit xs
+tail-few xs = held-length formLimit xs
 
 no-longer : (xs : List ℕ) → length (textOf xs) + length (tailOf xs) ≤ length xs
 unfolding textOf tailOf
@@ -124,9 +124,9 @@ module _ (t : List ℕ) (m : Masks) (some : 1 ≤ m .top) (few : m .top ≤ posi
   after-tail s (feed piece n) = tail-tail (heldIn s ++ piece)
   after-tail s (finish n) = refl
 
-  after-nine : (s : List ℕ) (c : Call) → length (tailAfter s c) ≤ heldMost formLimit
-  after-nine s (feed piece n) = tail-nine (heldIn s ++ piece)
-  after-nine s (finish n) = omega arith
+  after-few : (s : List ℕ) (c : Call) → length (tailAfter s c) ≤ heldMost formLimit
+  after-few s (feed piece n) = tail-few (heldIn s ++ piece)
+  after-few s (finish n) = omega arith
 
   after-sum : (s : List ℕ) → decodedIn s + length (heldIn s) ≤ rawIn s → (c : Call) → decodedIn s + length (outOf s c) + length (tailAfter s c) ≤ rawIn s + length (pieceOf c)
   after-sum s a (feed piece n) = omega (arith, no-longer (heldIn s ++ piece), length-append (heldIn s) piece)
@@ -155,19 +155,19 @@ module _ (t : List ℕ) (m : Masks) (some : 1 ≤ m .top) (few : m .top ≤ posi
         let R = rawIn s + length (pieceOf c) in
         let C = decodedIn s + length (outOf s c) in
         let H = tailAfter s c in
-        let nine = after-nine s c in
+        let short = after-few s c in
         let top : positionsIn s ≡ m .top = ap (λ (q : Masks). q .top) (x .masks) in
         let by = after-bytes s (x .bytes) c b in
         let sum = after-sum s (x .sum) c in
         let o = out-is s (k .held) (x .held) c in
-        let hd : heldIn (after s c) ≡ H = written-held s (x .long) D F R C H nine in
+        let hd : heldIn (after s c) ≡ H = written-held s (x .long) D F R C H short in
         let r = written-raw s (x .long) D F R C H in
         let d = written-decoded s (x .long) D F R C H in
         record {
           long = written-long s (x .long) D F R C H;
           table = written-table s (x .long) D F R C H ∙ x .table;
           masks = written-masks s (x .long) D F R C H ∙ x .masks;
-          possible-is = written-possible s (x .long) D F R C H nine (bytes-below H by) (after-tail s c) (omega (arith, top)) (omega (arith, top)) (finished-one c) limit sum;
+          possible-is = written-possible s (x .long) D F R C H short (bytes-below H by) (after-tail s c) (omega (arith, top)) (omega (arith, top)) (finished-one c) limit sum;
           state =
               written-state s (x .long) D F R C H
               ∙ ap₂ (λ (t : List ℕ) (m : Masks). stateAfter t m (stateIn s) (outOf s c)) (x .table) (x .masks)

@@ -14,7 +14,7 @@ use Rattle.model.specs.PlainScan.{Call, feed, finish, pieceOf, listOf}
 use Rattle.decoder.specs.declared.Answer.{Answer}
 use Rattle.decoder.specs.Decoder.{refusing, counting}
 use Rattle.shift_and_step.specs.Stepping.{stateAfter, endsIn}
-use Rattle.scan_piece.specs.declared.State.{State}
+use Rattle.scan_piece.specs.declared.Progress.{Progress}
 use Rattle.scan_piece.specs.Feeding.{textOf, tailOf}
 use Rattle.scan_value.specs.Value.{tableIn, masksIn, stateIn, rawIn, decodedIn, heldIn, written, numberFor}
 
@@ -25,7 +25,7 @@ abbrev pub numberOf : (s : List ℕ) → Call → ℕ
 numberOf s c = numberFor s (length (pieceOf c)) (listOf c)
 
 -- where it stands before its first byte
-abbrev pub startOf : (s : List ℕ) → State
+abbrev pub startOf : (s : List ℕ) → Progress
 startOf s = record { d = stateIn s; at = decodedIn s; count = 0 }
 
 -- What it lets out: a feed the text of the held bytes and the piece, "the finish" the held bytes, as they came.

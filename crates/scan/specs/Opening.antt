@@ -14,12 +14,12 @@ use Rattle.shift_and.specs.ForwardStep.{opening}
 use Rattle.shift_and.specs.Masks.{optionalMask, repeatsMask}
 use Rattle.rule_parser.specs.declared.Prepared.{Prepared}
 use Rattle.rule_table.specs.Tables.{tableOf}
-use Rattle.scan_value.specs.Value.{scanLength, slots, written}
+use Rattle.scan_value.specs.Value.{repeatsAt, scanLength, slots, written}
 use Rattle.scan.specs.declared.Opened.{Opened}
 
 -- `begin`: all but the table
 unfoldable pub begun : List ℕ → Prepared → List ℕ
-begun s p = written (sets s 256 (p .repeats ∷ p .optional ∷ p .positions ∷ [])) (opening 64 (p .optional)) 0 0 0 []
+begun s p = written (sets s repeatsAt (p .repeats ∷ p .optional ∷ p .positions ∷ [])) (opening 64 (p .optional)) 0 0 0 []
 
 -- The scan value that an accepted rule opens with: its table, masks and count of positions, the opening D, not finished, no bytes taken, none held.
 unfoldable pub openingOf : List Position → List ℕ

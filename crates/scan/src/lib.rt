@@ -6,10 +6,10 @@ ghost use Rattle.scan_value.specs.Value.{scanLength, Possible, Fine};
 ghost use Rattle.scan.specs.Calls.{startOf, FeedTaken, FinishTaken, FeedIs, FinishIs};
 ghost use Rattle.scan.specs.Opening.{begun, OpenIs};
 use decoder::Answer;
+use limits::FORM_LIMIT;
 use piece_decoder::held::Held;
-use reference_reader::FORM_LIMIT;
 use rule_parser::Prepared;
-use scan_piece::State;
+use scan_piece::Progress;
 
 // What preparing a rule, or an opening, answers.
 #[repr(C)]
@@ -28,7 +28,7 @@ fn begin(scan: &mut [u64], p: Prepared)
     scan[scan_value::REPEATS] = p.repeats;
     scan[scan_value::OPTIONAL] = p.optional;
     scan[scan_value::POSITIONS] = p.positions as u64;
-    let d = shift_and::opening(p.optional);
+    let d = shift_and::start_state(p.optional);
     let none = Held {
         bytes: [0u8; FORM_LIMIT],
         len: 0,
@@ -68,13 +68,13 @@ pub fn open(rule: &[u8], fold: u32, scan: &mut [u64]) -> Opened
 }
 
 // Where a call stands before its first byte.
-fn start(scan: &[u64]) -> State
+fn start(scan: &[u64]) -> Progress
     requires { ⌜ Possible (now scan) ⌝ }
     ensures { λ r. ⌜ r ≡ startOf (now (scan .entry)) ⌝ }
 {
     let d = scan[scan_value::STATE];
     let at = scan[scan_value::DECODED] as u32;
-    State {
+    Progress {
         d: d,
         at: at,
         count: 0,
@@ -115,7 +115,7 @@ fn finish_accepted(scan: &mut [u64], ends: &mut [u32]) -> Answer
     let g = start(scan);
     let b = h.bytes;
     let n = h.len;
-    let u = scan_piece::through(&scan[..256], masks, g, &b[..n], ends);
+    let u = scan_piece::step_held(&scan[..256], masks, g, &b[..n], ends);
     let none = Held {
         bytes: [0u8; FORM_LIMIT],
         len: 0,

@@ -13,14 +13,14 @@ use Rattle.model.specs.References.{formLimit, utf8, heldTail, letOut}
 use Rattle.model.proofs.Decoding.{utf8-four, held-cut, text-cut, held-length}
 use Rattle.reference_reader.specs.Utf8.{Put}
 use Rattle.model.proofs.Cuts.{all-held}
-use Rattle.reference_search.specs.Amps.{Verbatim}
-use Rattle.piece_decoder.specs.declared.Filled.{Filled}
-use Rattle.piece_decoder.specs.Filling.{FilledIs}
+use Rattle.reference_search.specs.Candidates.{LiteralEnd}
+use Rattle.piece_decoder.specs.declared.ChunkDecoded.{ChunkDecoded}
+use Rattle.piece_decoder.specs.Chunks.{ChunkDecodedIs}
 use Rattle.shift_and_step.specs.declared.Masks.{Masks}
-use Rattle.scan_piece.specs.declared.State.{State}
+use Rattle.scan_piece.specs.declared.Progress.{Progress}
 use Rattle.scan_piece.specs.declared.Next.{Next}
 use Rattle.shift_and_step.specs.Stepping.{endsIn}
-use Rattle.scan_piece.specs.Feeding.{textOf, tailOf, Stepped, PartEnd, TokenIs, RestIs}
+use Rattle.scan_piece.specs.Feeding.{textOf, tailOf, Stepped, PartEnd, NextPartIs, RestIs}
 use Rattle.scan_piece.proofs.Steps.{stepped-none, stepped-append}
 
 -- ---- `code_through`: the bytes stand in a buffer of four
@@ -35,7 +35,7 @@ module _ (code : ℕ) (l l′ : List ℕ) (n : ℕ) (long : length l ≡ 4) (p :
   pub code-long : (n ≤ 4) × (length l′ ≡ 4)
   code-long = let c = p .count in (omega (arith, utf8-four code), ap length (p .list) ∙ length-sets l 0 (utf8 code) ∙ long)
 
-  pub coded : (t : List ℕ) (m : Masks) (g : State) (ends : List ℕ) (r : State) (ends′ : List ℕ) → Stepped t m g (take n l′) ends r ends′ → Stepped t m g (utf8 code) ends r ends′
+  pub coded : (t : List ℕ) (m : Masks) (g : Progress) (ends : List ℕ) (r : Progress) (ends′ : List ℕ) → Stepped t m g (take n l′) ends r ends′ → Stepped t m g (utf8 code) ends r ends′
   coded t m g ends r ends′ x = subst (λ (b : List ℕ). Stepped t m g b ends r ends′) code-bytes x
 
 -- ---- `alone`
@@ -45,9 +45,9 @@ long-run i e t = let l = leb-true 1024 (e - i) t in omega arith
 
 -- ---- `room_through`, `token`
 
-module _ (t : List ℕ) (m : Masks) (g : State) (piece : List ℕ) (i : ℕ) (ends : List ℕ) (h : i < length piece) where
+module _ (t : List ℕ) (m : Masks) (g : Progress) (piece : List ℕ) (i : ℕ) (ends : List ℕ) (h : i < length piece) where
   -- a part, decoded into a room
-  module _ (k : ℕ) (p : PartEnd i (length piece) k) (room : List ℕ) (f : Filled) (room′ : List ℕ) (x : FilledIs (midOf i (k - i) piece) room f room′) where
+  module _ (k : ℕ) (p : PartEnd i (length piece) k) (room : List ℕ) (f : ChunkDecoded) (room′ : List ℕ) (x : ChunkDecodedIs (midOf i (k - i) piece) room f room′) where
     abbrev part : List ℕ
     part = take (k - i) (drop i piece)
 
@@ -90,7 +90,7 @@ module _ (t : List ℕ) (m : Masks) (g : State) (piece : List ℕ) (i : ℕ) (en
     within = let a = p .after in omega (arith, x .fits, part-long)
 
     room-token : (held : Bool) → (held ≡ false → i < i + f .kept) → (held ≡ true → tailOf (drop (i + f .kept) piece) ≡ drop (i + f .kept) piece)
-        → (s : State) (ends′ : List ℕ) → Stepped t m g front ends s ends′ → TokenIs t m g piece i ends (record { state = s; read = i + f .kept; held = held }) ends′
+        → (s : Progress) (ends′ : List ℕ) → Stepped t m g front ends s ends′ → NextPartIs t m g piece i ends (record { state = s; read = i + f .kept; held = held }) ends′
     room-token held go all s ends′ y = record {
       gives = front;
       steps = y;
@@ -102,8 +102,8 @@ module _ (t : List ℕ) (m : Masks) (g : State) (piece : List ℕ) (i : ℕ) (en
       all-held = all;
     }
 
-    pub room-more : k < length piece → (s : State) (ends′ : List ℕ) → Stepped t m g front ends s ends′
-        → TokenIs t m g piece i ends (record { state = s; read = i + f .kept; held = false }) ends′
+    pub room-more : k < length piece → (s : Progress) (ends′ : List ℕ) → Stepped t m g front ends s ends′
+        → NextPartIs t m g piece i ends (record { state = s; read = i + f .kept; held = false }) ends′
     room-more l =
         room-token false
         (λ e. omega (arith, p .full l, part-long, held-length formLimit part, ap length (x .holds), length-drop (f .kept) part))
@@ -115,16 +115,16 @@ module _ (t : List ℕ) (m : Masks) (g : State) (piece : List ℕ) (i : ℕ) (en
         let e : part ≡ drop i piece = take-all (k - i) (drop i piece) (omega (arith, length-drop i piece)) in
         ap (heldTail formLimit) (sym e) ∙ sym (x .holds) ∙ ap (drop (f .kept)) e ∙ drop-drop (f .kept) i piece
 
-    pub room-last : length piece ≤ k → (s : State) (ends′ : List ℕ) → Stepped t m g front ends s ends′
-        → TokenIs t m g piece i ends (record { state = s; read = i + f .kept; held = ltb (i + f .kept) k }) ends′
+    pub room-last : length piece ≤ k → (s : Progress) (ends′ : List ℕ) → Stepped t m g front ends s ends′
+        → NextPartIs t m g piece i ends (record { state = s; read = i + f .kept; held = ltb (i + f .kept) k }) ends′
     room-last l =
         room-token (ltb (i + f .kept) k)
         (λ e. let b = ltb-false (i + f .kept) k e in let a = p .after in omega arith)
         (λ e. sym held-part ∙ held-last l)
 
   -- a run of bytes that go out as they came
-  pub token-run : (e : ℕ) → Verbatim piece i e → (long : Bool) → (long ≡ true → i < e) → long ≡ true → (r : State) (ends′ : List ℕ) → Stepped t m g (midOf i (e - i) piece) ends r ends′
-      → TokenIs t m g piece i ends (record { state = r; read = e; held = false }) ends′
+  pub token-run : (e : ℕ) → LiteralEnd piece i e → (long : Bool) → (long ≡ true → i < e) → long ≡ true → (r : Progress) (ends′ : List ℕ) → Stepped t m g (midOf i (e - i) piece) ends r ends′
+      → NextPartIs t m g piece i ends (record { state = r; read = e; held = false }) ends′
   unfolding textOf tailOf
   token-run e v long some l r ends′ x = record {
     gives = take (e - i) (drop i piece);
@@ -139,7 +139,7 @@ module _ (t : List ℕ) (m : Masks) (g : State) (piece : List ℕ) (i : ℕ) (en
 
 -- ---- `scan_rest`
 
-pub record Resting (t : List ℕ) (m : Masks) (g₀ : State) (piece : List ℕ) (from : ℕ) (ends₀ : List ℕ) (g : State) (i : ℕ) (ends : List ℕ) : Type 0 where
+pub record Resting (t : List ℕ) (m : Masks) (g₀ : Progress) (piece : List ℕ) (from : ℕ) (ends₀ : List ℕ) (g : Progress) (i : ℕ) (ends : List ℕ) : Type 0 where
   pub done : List ℕ
   pub steps : Stepped t m g₀ done ends₀ g ends
   pub lets-out : textOf (drop from piece) ≡ done ++ textOf (drop i piece)
@@ -159,12 +159,12 @@ pub held-silent : (xs : List ℕ) → tailOf xs ≡ xs → textOf xs ≡ []
 unfolding textOf tailOf
 held-silent xs e = all-held formLimit xs e
 
-module _ (t : List ℕ) (m : Masks) (g₀ : State) (piece : List ℕ) (from : ℕ) (ends₀ : List ℕ) where
+module _ (t : List ℕ) (m : Masks) (g₀ : Progress) (piece : List ℕ) (from : ℕ) (ends₀ : List ℕ) where
   pub resting : from ≤ length piece → g₀ .count + length piece ≤ length ends₀ + from → g₀ .at + length piece < 2 ^ 32 + from → Resting t m g₀ piece from ends₀ g₀ from ends₀
   resting w r s =
       record { done = []; steps = stepped-none t m g₀ ends₀; lets-out = refl; holds = refl; within = w; few = omega arith; long = refl; room = r; small = s }
 
-  module _ {g : State} {i : ℕ} {ends : List ℕ} (w : Resting t m g₀ piece from ends₀ g i ends) {r : Next} {ends′ : List ℕ} (x : TokenIs t m g piece i ends r ends′) where
+  module _ {g : Progress} {i : ℕ} {ends : List ℕ} (w : Resting t m g₀ piece from ends₀ g i ends) {r : Next} {ends′ : List ℕ} (x : NextPartIs t m g piece i ends r ends′) where
     both : Stepped t m g₀ (w .done ++ x .gives) ends₀ (r .state) ends′
     both = stepped-append t m g₀ (w .done) (x .gives) ends₀ g ends (r .state) ends′ (w .steps) (x .steps)
 
@@ -205,7 +205,7 @@ module _ (t : List ℕ) (m : Masks) (g₀ : State) (piece : List ℕ) (from : �
           small = omega arith;
         }
 
-  module _ {g : State} {i : ℕ} {ends : List ℕ} (w : Resting t m g₀ piece from ends₀ g i ends) where
+  module _ {g : Progress} {i : ℕ} {ends : List ℕ} (w : Resting t m g₀ piece from ends₀ g i ends) where
     pub rest-over : length piece ≤ i → RestIs t m g₀ piece from ends₀ (record { state = g; kept = i }) ends
     rest-over h =
         let n : drop i piece ≡ [] = drop-of-length-le piece h in

@@ -10,14 +10,14 @@ use borrow.Rule.Slice.PartMut.{putMid, midOf}
 use Rattle.model.proofs.LentLists.{sets-append, sets-from}
 use Rattle.shift_and_step.specs.declared.Masks.{Masks}
 use Rattle.shift_and_step.specs.Stepping.{stateAfter, endsIn}
-use Rattle.shift_and_loop.proofs.Turns.{state-append, ends-append}
-use Rattle.shift_and_scan.specs.declared.Ran.{Ran}
-use Rattle.shift_and_scan.specs.Running.{Scanned}
-use Rattle.scan_piece.specs.declared.State.{State}
+use Rattle.shift_and_loop.proofs.LoopLaws.{state-append, ends-append}
+use Rattle.shift_and_scan.specs.declared.ScanResult.{ScanResult}
+use Rattle.shift_and_scan.specs.Scanning.{Scanned}
+use Rattle.scan_piece.specs.declared.Progress.{Progress}
 use Rattle.scan_piece.specs.Feeding.{Stepped}
 
 module _ (t : List ℕ) (m : Masks) where
-  pub stepped : (g : State) (text ends : List ℕ) → g .count + length text ≤ length ends → (r : Ran) (part : List ℕ)
+  pub stepped : (g : Progress) (text ends : List ℕ) → g .count + length text ≤ length ends → (r : ScanResult) (part : List ℕ)
       → Scanned t m (g .d) (g .at) text (midOf (g .count) (length ends - g .count) ends) r part
       → Stepped t m g text ends (record { d = r .d; at = g .at + length text; count = g .count + r .count }) (putMid (g .count) (length ends - g .count) ends part)
   stepped g text ends room r part x =
@@ -32,11 +32,11 @@ module _ (t : List ℕ) (m : Masks) where
         list = rw (x .list) (sets-from ends (g .count) (endsIn t m (g .d) (g .at) text) (omega arith));
       }
 
-  pub stepped-none : (g : State) (ends : List ℕ) → Stepped t m g [] ends g ends
+  pub stepped-none : (g : Progress) (ends : List ℕ) → Stepped t m g [] ends g ends
   unfolding stateAfter endsIn
   stepped-none g ends = record { state = refl; place = sym (add-zero _); count = sym (add-zero _); few = omega arith; long = refl; list = refl }
 
-  pub stepped-append : (g : State) (xs ys ends : List ℕ) (h : State) (ends′ : List ℕ) (k : State) (ends″ : List ℕ)
+  pub stepped-append : (g : Progress) (xs ys ends : List ℕ) (h : Progress) (ends′ : List ℕ) (k : Progress) (ends″ : List ℕ)
       → Stepped t m g xs ends h ends′ → Stepped t m h ys ends′ k ends″ → Stepped t m g (xs ++ ys) ends k ends″
   stepped-append g xs ys ends h ends′ k ends″ a b =
       let l = length-append xs ys in

@@ -10,7 +10,7 @@ use Rattle.shift_and_step.specs.declared.Masks.{Masks}
 use Rattle.shift_and_step.specs.Stepping.{stateAfter, endsIn}
 use Rattle.piece_decoder.specs.declared.held.Held.{Held}
 use Rattle.piece_decoder.specs.Held.{heldOf}
-use Rattle.scan_piece.specs.declared.State.{State}
+use Rattle.scan_piece.specs.declared.Progress.{Progress}
 use Rattle.scan_piece.specs.declared.Next.{Next}
 use Rattle.scan_piece.specs.declared.Rest.{Rest}
 use Rattle.scan_piece.specs.declared.Fed.{Fed}
@@ -23,7 +23,7 @@ unfoldable pub tailOf : List ℕ → List ℕ
 tailOf raw = heldTail formLimit raw
 
 -- `through`, `code_through`: from state g over some decoded bytes
-pub record Stepped (t : List ℕ) (m : Masks) (g : State) (text ends : List ℕ) (r : State) (ends′ : List ℕ) : Type 0 where
+pub record Stepped (t : List ℕ) (m : Masks) (g : Progress) (text ends : List ℕ) (r : Progress) (ends′ : List ℕ) : Type 0 where
   pub state : r .d ≡ stateAfter t m (g .d) text
   pub place : r .at ≡ g .at + length text
   pub count : r .count ≡ g .count + length (endsIn t m (g .d) (g .at) text)
@@ -32,18 +32,18 @@ pub record Stepped (t : List ℕ) (m : Masks) (g : State) (text ends : List ℕ)
   pub list : ends′ ≡ sets ends (g .count) (endsIn t m (g .d) (g .at) text)
 
 -- as many bytes as a room takes
-abbrev pub roomSize : ℕ
-roomSize = 4096
+abbrev pub chunkSize : ℕ
+chunkSize = 4096
 
 -- `part_end`: a part is as long as that, or up to the end
 pub record PartEnd (i len r : ℕ) : Type 0 where
   pub after : i < r
   pub fits : r ≤ len
-  pub small : r ≤ i + roomSize
-  pub full : r < len → r ≡ i + roomSize
+  pub small : r ≤ i + chunkSize
+  pub full : r < len → r ≡ i + chunkSize
 
 -- `token`: what is let out, and what is left
-pub record TokenIs (t : List ℕ) (m : Masks) (g : State) (piece : List ℕ) (i : ℕ) (ends : List ℕ) (r : Next) (ends′ : List ℕ) : Type 0 where
+pub record NextPartIs (t : List ℕ) (m : Masks) (g : Progress) (piece : List ℕ) (i : ℕ) (ends : List ℕ) (r : Next) (ends′ : List ℕ) : Type 0 where
   pub gives : List ℕ
   pub steps : Stepped t m g gives ends (r .state) ends′
   pub lets-out : textOf (drop i piece) ≡ gives ++ textOf (drop (r .read) piece)
@@ -54,7 +54,7 @@ pub record TokenIs (t : List ℕ) (m : Masks) (g : State) (piece : List ℕ) (i 
   pub all-held : r .held ≡ true → tailOf (drop (r .read) piece) ≡ drop (r .read) piece
 
 -- `scan_rest`: all the text that the piece lets out is stepped over, and what it holds back is its end
-pub record RestIs (t : List ℕ) (m : Masks) (g : State) (piece : List ℕ) (from : ℕ) (ends : List ℕ) (r : Rest) (ends′ : List ℕ) : Type 0 where
+pub record RestIs (t : List ℕ) (m : Masks) (g : Progress) (piece : List ℕ) (from : ℕ) (ends : List ℕ) (r : Rest) (ends′ : List ℕ) : Type 0 where
   pub steps : Stepped t m g (textOf (drop from piece)) ends (r .state) ends′
   pub holds : tailOf (drop from piece) ≡ drop (r .kept) piece
   pub fits : r .kept ≤ length piece
@@ -68,13 +68,13 @@ pub record Holds (h : Held) (tail : List ℕ) : Type 0 where
   pub long : length (h .bytes) ≡ formLimit
 
 -- `feed_rest`: and that end is held
-pub record RestFed (t : List ℕ) (m : Masks) (g : State) (piece : List ℕ) (from : ℕ) (ends : List ℕ) (r : Fed) (ends′ : List ℕ) : Type 0 where
+pub record RestFed (t : List ℕ) (m : Masks) (g : Progress) (piece : List ℕ) (from : ℕ) (ends : List ℕ) (r : Fed) (ends′ : List ℕ) : Type 0 where
   pub steps : Stepped t m g (textOf (drop from piece)) ends (r .state) ends′
   pub held : Holds (r .held) (tailOf (drop from piece))
   pub few : length (textOf (drop from piece)) + r .held .len + from ≤ length piece
 
 -- `feed_bytes`: all the text that the held bytes and the piece let out is stepped over, and their tail is held
-pub record FedIs (t : List ℕ) (m : Masks) (g : State) (h : Held) (piece ends : List ℕ) (r : Fed) (ends′ : List ℕ) : Type 0 where
+pub record FedIs (t : List ℕ) (m : Masks) (g : Progress) (h : Held) (piece ends : List ℕ) (r : Fed) (ends′ : List ℕ) : Type 0 where
   pub steps : Stepped t m g (textOf (heldOf h ++ piece)) ends (r .state) ends′
   pub held : Holds (r .held) (tailOf (heldOf h ++ piece))
   pub few : length (textOf (heldOf h ++ piece)) + r .held .len ≤ h .len + length piece

@@ -4,98 +4,102 @@ ghost use mathlib.Core.Path.{_≡_};
 ghost use mathlib.Core.Bool.{true};
 ghost use Prim.Native.Nat.{_+_, _<_, _≤_, _^_};
 ghost use lib.ListN.{length};
+ghost use Rattle.shift_and_step.specs.Stepping.{TableFits};
 ghost use Rattle.model.specs.References.{utf8};
-ghost use Rattle.prefilter.specs.Plans.{Planned};
+ghost use Rattle.prefilter.specs.Soundness.{PrefilterSound};
 ghost use Rattle.reference_reader.specs.Reader.{codeLimit};
 ghost use Rattle.piece_decoder.specs.Held.{HeldFine};
-ghost use Rattle.scan_piece.specs.Feeding.{Stepped, PartEnd, TokenIs, RestIs, RestFed, FedIs};
+ghost use Rattle.scan_piece.specs.Feeding.{Stepped, PartEnd, NextPartIs, RestIs, RestFed, FedIs};
+use limits::FORM_LIMIT;
 use piece_decoder::held::Held;
 use piece_decoder::held::HeldOutcome;
-use prefilter::Plan;
-use reference_reader::FORM_LIMIT;
+use prefilter::Prefilter;
 use shift_and_step::Masks;
 
 // Where a call stands: the states, the count of decoded bytes, and the count of ends that it has stored.
-pub struct State {
+pub struct Progress {
     pub d: u64,
     pub at: u32,
     pub count: usize,
 }
 
-// Steps over `text` by a plan, and stores its ends after those stored.
-fn run_through(
+// Steps over `text` by a prefilter, and stores its ends after those stored.
+fn step_text(
     table: &[u64],
     masks: Masks,
-    plan: Plan,
-    g: State,
+    plan: Prefilter,
+    g: Progress,
     text: &[u8],
     ends: &mut [u32],
-) -> State
-    requires { ⌜ length (now table) ≡ 256 ⌝ }
-    requires { ⌜ masks .top < 64 ⌝ }
+) -> Progress
+    requires { ⌜ TableFits (now table) masks ⌝ }
     requires { ⌜ g .count + length (now text) ≤ length (now ends) ⌝ }
     requires { ⌜ g .at + length (now text) < 2 ^ 32 ⌝ }
-    requires { ⌜ Planned (now table) (masks .repeats) (masks .optional) (masks .top) plan ⌝ }
+    requires { ⌜ PrefilterSound (now table) (masks .repeats) (masks .optional) (masks .top) plan ⌝ }
     ensures { λ r. ⌜ Stepped (now (table .entry)) masks g (now (text .entry)) (now (ends .entry)) r (now (ends .exit)) ⌝ }
 {
     let count = g.count;
-    let r = shift_and_scan::run(table, masks, plan, g.d, g.at, text, &mut ends[count..]);
+    let r = shift_and_scan::scan_text(table, masks, plan, g.d, g.at, text, &mut ends[count..]);
     let at = g.at + text.len() as u32;
     let stored = count + r.count;
-    State {
+    Progress {
         d: r.d,
         at: at,
         count: stored,
     }
 }
 
-// The same by a plan made for this text alone.
-pub fn through(table: &[u64], masks: Masks, g: State, text: &[u8], ends: &mut [u32]) -> State
-    requires { ⌜ length (now table) ≡ 256 ⌝ }
-    requires { ⌜ masks .top < 64 ⌝ }
+// The same by a prefilter chosen for this text alone.
+pub fn step_held(
+    table: &[u64],
+    masks: Masks,
+    g: Progress,
+    text: &[u8],
+    ends: &mut [u32],
+) -> Progress
+    requires { ⌜ TableFits (now table) masks ⌝ }
     requires { ⌜ g .count + length (now text) ≤ length (now ends) ⌝ }
     requires { ⌜ g .at + length (now text) < 2 ^ 32 ⌝ }
     ensures { λ r. ⌜ Stepped (now (table .entry)) masks g (now (text .entry)) (now (ends .entry)) r (now (ends .exit)) ⌝ }
 {
-    let plan = prefilter::plan_of(table, masks.repeats, masks.optional, masks.top, text.len());
-    run_through(table, masks, plan, g, text, ends)
+    let plan = prefilter::choose(table, masks.repeats, masks.optional, masks.top, text.len());
+    step_text(table, masks, plan, g, text, ends)
 }
 
 // Steps over the UTF-8 bytes of a code point.
-fn code_through(
+fn step_code_point(
     table: &[u64],
     masks: Masks,
-    plan: Plan,
-    g: State,
+    plan: Prefilter,
+    g: Progress,
     code: u32,
     ends: &mut [u32],
-) -> State
-    requires { ⌜ length (now table) ≡ 256 ⌝ }
-    requires { ⌜ masks .top < 64 ⌝ }
+) -> Progress
+    requires { ⌜ TableFits (now table) masks ⌝ }
     requires { ⌜ code < codeLimit ⌝ }
     requires { ⌜ g .count + length (utf8 code) ≤ length (now ends) ⌝ }
     requires { ⌜ g .at + length (utf8 code) < 2 ^ 32 ⌝ }
-    requires { ⌜ Planned (now table) (masks .repeats) (masks .optional) (masks .top) plan ⌝ }
+    requires { ⌜ PrefilterSound (now table) (masks .repeats) (masks .optional) (masks .top) plan ⌝ }
     ensures { λ r. ⌜ Stepped (now (table .entry)) masks g (utf8 code) (now (ends .entry)) r (now (ends .exit)) ⌝ }
 {
     let mut t = [0u8; 4];
     let n = reference_reader::put_utf8(&mut t, code);
-    run_through(table, masks, plan, g, &t[..n], ends)
+    step_text(table, masks, plan, g, &t[..n], ends)
 }
 
 // After some bytes of a piece: the state, how far the piece is read, and whether the rest of it is held
 // back.
 pub struct Next {
-    pub state: State,
+    pub state: Progress,
     pub read: usize,
     pub held: bool,
 }
 
-// A run of so many bytes is stepped over where it stands: a copy would cost more than it saves.
-const LONG: usize = 1024;
+// From so many literal bytes on they are stepped over where they stand: a copy would cost more than it saves.
+const IN_PLACE_FROM: usize = 1024;
 
-// Whether the run from i to e is: it has so many, or is all the rest. Only speed hangs on the choice.
-fn alone(i: usize, e: usize, len: usize) -> bool
+// Whether those from i to e are: they are so many, or all the rest. Only speed depends on the choice.
+fn in_place(i: usize, e: usize, len: usize) -> bool
     requires { ⌜ i < len ⌝ }
     requires { ⌜ i ≤ e ⌝ }
     ensures { λ r. ⌜ (r ≡ true → i < e) ⌝ }
@@ -103,48 +107,47 @@ fn alone(i: usize, e: usize, len: usize) -> bool
     if e == len {
         return true;
     }
-    LONG <= e - i
+    IN_PLACE_FROM <= e - i
 }
 
-// As many bytes as a room takes: a part of a piece with references is decoded there first, and stepped
-// over in one run, since many short runs are slow.
-const ROOM: usize = 4096;
+// As many bytes as a chunk takes: a part of a piece with references is decoded there first, and stepped over
+// in one scan, since many short scans are slow.
+const CHUNK: usize = 4096;
 
 // The end of the part that begins at i.
 fn part_end(i: usize, len: usize) -> usize
     requires { ⌜ i < len ⌝ }
     ensures { λ r. ⌜ PartEnd i len r ⌝ }
 {
-    if len - i <= ROOM {
+    if len - i <= CHUNK {
         return len;
     }
-    i + ROOM
+    i + CHUNK
 }
 
-// A part of a piece, with nothing held, through a room. What the part holds back begins the next one,
+// A part of a piece, with nothing held, through a chunk. What the part holds back begins the next one,
 // and is held back if the piece ends there.
-fn room_through(
+fn step_chunk(
     table: &[u64],
     masks: Masks,
-    plan: Plan,
-    g: State,
+    plan: Prefilter,
+    g: Progress,
     piece: &[u8],
     i: usize,
     ends: &mut [u32],
 ) -> Next
-    requires { ⌜ length (now table) ≡ 256 ⌝ }
-    requires { ⌜ masks .top < 64 ⌝ }
+    requires { ⌜ TableFits (now table) masks ⌝ }
     requires { ⌜ i < length (now piece) ⌝ }
     requires { ⌜ g .count + length (now piece) ≤ length (now ends) + i ⌝ }
     requires { ⌜ g .at + length (now piece) < 2 ^ 32 + i ⌝ }
-    requires { ⌜ Planned (now table) (masks .repeats) (masks .optional) (masks .top) plan ⌝ }
-    ensures { λ r. ⌜ TokenIs (now (table .entry)) masks g (now (piece .entry)) i (now (ends .entry)) r (now (ends .exit)) ⌝ }
+    requires { ⌜ PrefilterSound (now table) (masks .repeats) (masks .optional) (masks .top) plan ⌝ }
+    ensures { λ r. ⌜ NextPartIs (now (table .entry)) masks g (now (piece .entry)) i (now (ends .entry)) r (now (ends .exit)) ⌝ }
 {
     let k = part_end(i, piece.len());
-    let mut room = [0u8; ROOM];
-    let f = piece_decoder::fill(&piece[i..k], &mut room);
+    let mut room = [0u8; CHUNK];
+    let f = piece_decoder::decode_chunk(&piece[i..k], &mut room);
     let n = f.written;
-    let s = run_through(table, masks, plan, g, &room[0..n], ends);
+    let s = step_text(table, masks, plan, g, &room[0..n], ends);
     let after = i + f.kept;
     if k < piece.len() {
         return Next {
@@ -160,40 +163,39 @@ fn room_through(
     }
 }
 
-// Some bytes of a piece, with nothing held: a run that goes out as it came, or else a part through a
-// room.
-fn token(
+// Some bytes of a piece, with nothing held: literal bytes where they stand, or else a part through a
+// chunk.
+fn next_part(
     table: &[u64],
     masks: Masks,
-    plan: Plan,
-    g: State,
+    plan: Prefilter,
+    g: Progress,
     piece: &[u8],
     i: usize,
     ends: &mut [u32],
 ) -> Next
-    requires { ⌜ length (now table) ≡ 256 ⌝ }
-    requires { ⌜ masks .top < 64 ⌝ }
+    requires { ⌜ TableFits (now table) masks ⌝ }
     requires { ⌜ i < length (now piece) ⌝ }
     requires { ⌜ g .count + length (now piece) ≤ length (now ends) + i ⌝ }
     requires { ⌜ g .at + length (now piece) < 2 ^ 32 + i ⌝ }
-    requires { ⌜ Planned (now table) (masks .repeats) (masks .optional) (masks .top) plan ⌝ }
-    ensures { λ r. ⌜ TokenIs (now (table .entry)) masks g (now (piece .entry)) i (now (ends .entry)) r (now (ends .exit)) ⌝ }
+    requires { ⌜ PrefilterSound (now table) (masks .repeats) (masks .optional) (masks .top) plan ⌝ }
+    ensures { λ r. ⌜ NextPartIs (now (table .entry)) masks g (now (piece .entry)) i (now (ends .entry)) r (now (ends .exit)) ⌝ }
 {
-    let e = reference_search::verbatim(piece, i);
-    if alone(i, e, piece.len()) {
-        let s = run_through(table, masks, plan, g, &piece[i..e], ends);
+    let e = reference_search::literal_end(piece, i);
+    if in_place(i, e, piece.len()) {
+        let s = step_text(table, masks, plan, g, &piece[i..e], ends);
         return Next {
             state: s,
             read: e,
             held: false,
         };
     }
-    room_through(table, masks, plan, g, piece, i, ends)
+    step_chunk(table, masks, plan, g, piece, i, ends)
 }
 
 // After the rest of a piece: the state, and from where on the piece is held back.
 pub struct Rest {
-    pub state: State,
+    pub state: Progress,
     pub kept: usize,
 }
 
@@ -201,24 +203,23 @@ pub struct Rest {
 fn scan_rest(
     table: &[u64],
     masks: Masks,
-    plan: Plan,
-    g: State,
+    plan: Prefilter,
+    g: Progress,
     piece: &[u8],
     from: usize,
     ends: &mut [u32],
 ) -> Rest
-    requires { ⌜ length (now table) ≡ 256 ⌝ }
-    requires { ⌜ masks .top < 64 ⌝ }
+    requires { ⌜ TableFits (now table) masks ⌝ }
     requires { ⌜ from ≤ length (now piece) ⌝ }
     requires { ⌜ g .count + length (now piece) ≤ length (now ends) + from ⌝ }
     requires { ⌜ g .at + length (now piece) < 2 ^ 32 + from ⌝ }
-    requires { ⌜ Planned (now table) (masks .repeats) (masks .optional) (masks .top) plan ⌝ }
+    requires { ⌜ PrefilterSound (now table) (masks .repeats) (masks .optional) (masks .top) plan ⌝ }
     ensures { λ r. ⌜ RestIs (now (table .entry)) masks g (now (piece .entry)) from (now (ends .entry)) r (now (ends .exit)) ⌝ }
 {
     let mut s = g;
     let mut i = from;
     while i < piece.len() {
-        let t = token(table, masks, plan, s, piece, i, ends);
+        let t = next_part(table, masks, plan, s, piece, i, ends);
         let u = t.state;
         if t.held {
             return Rest {
@@ -234,7 +235,7 @@ fn scan_rest(
 
 // After a piece: the state, and the bytes held back.
 pub struct Fed {
-    pub state: State,
+    pub state: Progress,
     pub held: Held,
 }
 
@@ -242,18 +243,17 @@ pub struct Fed {
 fn feed_rest(
     table: &[u64],
     masks: Masks,
-    plan: Plan,
-    g: State,
+    plan: Prefilter,
+    g: Progress,
     piece: &[u8],
     from: usize,
     ends: &mut [u32],
 ) -> Fed
-    requires { ⌜ length (now table) ≡ 256 ⌝ }
-    requires { ⌜ masks .top < 64 ⌝ }
+    requires { ⌜ TableFits (now table) masks ⌝ }
     requires { ⌜ from ≤ length (now piece) ⌝ }
     requires { ⌜ g .count + length (now piece) ≤ length (now ends) + from ⌝ }
     requires { ⌜ g .at + length (now piece) < 2 ^ 32 + from ⌝ }
-    requires { ⌜ Planned (now table) (masks .repeats) (masks .optional) (masks .top) plan ⌝ }
+    requires { ⌜ PrefilterSound (now table) (masks .repeats) (masks .optional) (masks .top) plan ⌝ }
     ensures { λ r. ⌜ RestFed (now (table .entry)) masks g (now (piece .entry)) from (now (ends .entry)) r (now (ends .exit)) ⌝ }
 {
     let r = scan_rest(table, masks, plan, g, piece, from, ends);
@@ -272,30 +272,29 @@ fn feed_rest(
 pub fn feed_bytes(
     table: &[u64],
     masks: Masks,
-    g: State,
+    g: Progress,
     h: Held,
     piece: &[u8],
     ends: &mut [u32],
 ) -> Fed
-    requires { ⌜ length (now table) ≡ 256 ⌝ }
-    requires { ⌜ masks .top < 64 ⌝ }
+    requires { ⌜ TableFits (now table) masks ⌝ }
     requires { ⌜ HeldFine h ⌝ }
     requires { ⌜ g .count + h .len + length (now piece) ≤ length (now ends) ⌝ }
     requires { ⌜ g .at + h .len + length (now piece) < 2 ^ 32 ⌝ }
     ensures { λ r. ⌜ FedIs (now (table .entry)) masks g h (now (piece .entry)) (now (ends .entry)) r (now (ends .exit)) ⌝ }
 {
-    let plan = prefilter::plan_of(table, masks.repeats, masks.optional, masks.top, piece.len());
+    let plan = prefilter::choose(table, masks.repeats, masks.optional, masks.top, piece.len());
     let x = piece_decoder::held::resolve_held(h, piece);
     let case = x.case;
     match case {
         HeldOutcome::Completed(code, taken) => {
-            let s = code_through(table, masks, plan, g, code, ends);
+            let s = step_code_point(table, masks, plan, g, code, ends);
             return feed_rest(table, masks, plan, s, piece, taken, ends);
         }
         HeldOutcome::Literal => {
             let b = h.bytes;
             let l = h.len;
-            let s = run_through(table, masks, plan, g, &b[..l], ends);
+            let s = step_text(table, masks, plan, g, &b[..l], ends);
             return feed_rest(table, masks, plan, s, piece, 0, ends);
         }
         HeldOutcome::Pending => {

@@ -150,7 +150,7 @@ module _ (s : List ℕ) where
                   bytes-over z = impossible (simp (eq-eqb _ _ a, le-leb _ _ b, le-leb _ _ d, le-leb _ _ e, le-leb _ _ f, le-leb _ _ g, le-leb _ _ h, le-leb _ _ i) (rw (← x .is, z)))
 
                   pub can-load : k ≡ true → LoadFine s
-                  can-load z = record { long = a; nine = h; bytes = x .says z }
+                  can-load z = record { long = a; few = h; bytes = x .says z }
 
                   pub by-tail : k ≡ true → (l : Held) → LoadIs s l → (r : Bool) → r ≡ isTail (heldOf l) → PossibleIs s r
                   unfolding possible
@@ -158,7 +158,7 @@ module _ (s : List ℕ) where
                       let t : r ≡ isTail (heldIn s) = q ∙ ap isTail (y .is) in
                       record {
                         is = simp (eq-eqb _ _ a, le-leb _ _ b, le-leb _ _ d, le-leb _ _ e, le-leb _ _ f, le-leb _ _ g, le-leb _ _ h, le-leb _ _ i) (rw (← x .is, z) t);
-                        says = λ y. record { long = a; some = b; top = omega arith; raw = f; sum = i; nine = h; bytes = x .says z; tail = is-tail (heldIn s) (sym t ∙ y) };
+                        says = λ y. record { long = a; some = b; top = omega arith; raw = f; sum = i; few = h; bytes = x .says z; tail = is-tail (heldIn s) (sym t ∙ y) };
                       }
 
 module _ (s : List ℕ) (p n : ℕ) (r : Bool) (x : PossibleIs s r) where

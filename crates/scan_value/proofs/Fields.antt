@@ -40,7 +40,7 @@ module _ (s : List ℕ) where
 
   pub loaded : {t : List ℕ} {j : ℕ} → Loading s t (heldCountIn s) j → LoadFine s → heldCountIn s ≤ j → LoadIs s (record { bytes = t; len = heldCountIn s })
   loaded {t} {j} g fine h =
-      let few = fine .nine in
+      let few = fine .few in
       let f = g .few in
       let e : j ≡ heldCountIn s = omega arith in
       record { is = subst (λ (n : ℕ). take n t ≡ take n (drop 264 s)) e (g .is); size = refl; few = few; long = g .long }

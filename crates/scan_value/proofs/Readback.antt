@@ -111,12 +111,12 @@ module _ (s : List ℕ) (long : length s ≡ scanLength) (d f r c : ℕ) (h : Li
   pub written-masks : masksIn (written s d f r c h) ≡ masksIn s
   written-masks = rw (written-low 256 (omega arith), written-low 257 (omega arith), written-low 258 (omega arith))
 
-  module _ (nine : length h ≤ heldMost formLimit) where
+  module _ (few : length h ≤ heldMost formLimit) where
     pub written-held : heldIn (written s d f r c h) ≡ h
     written-held =
         ap (λ (n : ℕ). take n (drop heldAt (written s d f r c h))) written-count
         ∙ ap (take (length h)) written-slots
-        ∙ slots-take (heldMost formLimit) h nine
+        ∙ slots-take (heldMost formLimit) h few
 
     -- A value so written is possible again.
     pub written-possible : ((i : ℕ) → getD h i 0 < 256) → heldTail formLimit h ≡ h → 1 ≤ positionsIn s → positionsIn s ≤ positionLimit → f ≤ 1 → r ≤ textLimit

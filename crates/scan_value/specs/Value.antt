@@ -17,37 +17,65 @@ use Rattle.piece_decoder.specs.Held.{heldOf}
 
 -- ---- how it is read
 
+-- where each field stands: B, an entry for each byte, and then the others one after another, the held bytes last
+abbrev pub tableLength : ℕ
+tableLength = 256
+
+abbrev pub repeatsAt : ℕ
+repeatsAt = tableLength
+
+abbrev pub optionalAt : ℕ
+optionalAt = repeatsAt + 1
+
+abbrev pub positionsAt : ℕ
+positionsAt = optionalAt + 1
+
+abbrev pub stateAt : ℕ
+stateAt = positionsAt + 1
+
+abbrev pub finishedAt : ℕ
+finishedAt = stateAt + 1
+
+abbrev pub rawAt : ℕ
+rawAt = finishedAt + 1
+
+abbrev pub decodedAt : ℕ
+decodedAt = rawAt + 1
+
+abbrev pub heldCountAt : ℕ
+heldCountAt = decodedAt + 1
+
+abbrev pub heldAt : ℕ
+heldAt = heldCountAt + 1
+
 abbrev pub scanLength : ℕ
-scanLength = 273
+scanLength = heldAt + heldMost formLimit
 
 -- the rule's part: B, R, A, the number of positions, and D
 abbrev pub tableIn : List ℕ → List ℕ
-tableIn s = take 256 s
+tableIn s = take tableLength s
 
 abbrev pub positionsIn : List ℕ → ℕ
-positionsIn s = getD s 258 0
+positionsIn s = getD s positionsAt 0
 
 abbrev pub masksIn : List ℕ → Masks
-masksIn s = record { repeats = getD s 256 0; optional = getD s 257 0; top = positionsIn s }
+masksIn s = record { repeats = getD s repeatsAt 0; optional = getD s optionalAt 0; top = positionsIn s }
 
 abbrev pub stateIn : List ℕ → ℕ
-stateIn s = getD s 259 0
+stateIn s = getD s stateAt 0
 
 -- the plan's part: whether it has finished, the counts of raw and of decoded bytes, and the held bytes
 abbrev pub finishedIn : List ℕ → ℕ
-finishedIn s = getD s 260 0
+finishedIn s = getD s finishedAt 0
 
 abbrev pub rawIn : List ℕ → ℕ
-rawIn s = getD s 261 0
+rawIn s = getD s rawAt 0
 
 abbrev pub decodedIn : List ℕ → ℕ
-decodedIn s = getD s 262 0
+decodedIn s = getD s decodedAt 0
 
 abbrev pub heldCountIn : List ℕ → ℕ
-heldCountIn s = getD s 263 0
-
-abbrev pub heldAt : ℕ
-heldAt = 264
+heldCountIn s = getD s heldCountAt 0
 
 abbrev pub heldIn : List ℕ → List ℕ
 heldIn s = take (heldCountIn s) (drop heldAt s)
@@ -62,7 +90,7 @@ slots (suc n) (c ∷ h) = c ∷ slots n h
 
 -- D and the plan's part written anew
 unfoldable pub written : List ℕ → (d finished raw decoded : ℕ) (held : List ℕ) → List ℕ
-written s d finished raw decoded held = sets s 259 (d ∷ finished ∷ raw ∷ decoded ∷ length held ∷ slots (heldMost formLimit) held)
+written s d finished raw decoded held = sets s stateAt (d ∷ finished ∷ raw ∷ decoded ∷ length held ∷ slots (heldMost formLimit) held)
 
 -- ---- impossible values
 
@@ -98,7 +126,7 @@ pub record Possible (s : List ℕ) : Type 0 where
   pub top : positionsIn s < 64
   pub raw : rawIn s ≤ textLimit
   pub sum : decodedIn s + heldCountIn s ≤ rawIn s
-  pub nine : heldCountIn s ≤ heldMost formLimit
+  pub few : heldCountIn s ≤ heldMost formLimit
   pub bytes : (j : ℕ) → j < heldMost formLimit → getD s (heldAt + j) 0 < 256
   pub tail : heldTail formLimit (heldIn s) ≡ heldIn s
 
@@ -113,7 +141,7 @@ pub record BytesFit (s : List ℕ) (r : Bool) : Type 0 where
 
 pub record LoadFine (s : List ℕ) : Type 0 where
   pub long : length s ≡ scanLength
-  pub nine : heldCountIn s ≤ heldMost formLimit
+  pub few : heldCountIn s ≤ heldMost formLimit
   pub bytes : (j : ℕ) → j < heldMost formLimit → getD s (heldAt + j) 0 < 256
 
 pub record LoadIs (s : List ℕ) (r : Held) : Type 0 where

@@ -7,38 +7,38 @@ ghost use lib.Seq.{sets};
 ghost use Rattle.model.specs.References.{formLimit, heldMost};
 ghost use Rattle.piece_decoder.specs.Held.{heldOf};
 ghost use Rattle.scan_value.specs.Value.{scanLength, heldAt, masksIn, isTail, BytesFit, LoadFine, LoadIs, PossibleIs, RefusedIs, HeldFits, slots, written};
+use limits::FORM_LIMIT;
+use limits::HELD_MOST;
 use piece_decoder::held::Held;
-use reference_reader::FORM_LIMIT;
 use reference_reader::Reference;
 use shift_and_step::Masks;
 
 // The rule's part: the table from 0 on, and these.
 pub const REPEATS: usize = 256;
 
-pub const OPTIONAL: usize = 257;
+pub const OPTIONAL: usize = REPEATS + 1;
 
-pub const POSITIONS: usize = 258;
+pub const POSITIONS: usize = OPTIONAL + 1;
 
-pub const STATE: usize = 259;
+pub const STATE: usize = POSITIONS + 1;
+
 // The plan's part.
-pub const FINISHED: usize = 260;
+pub const FINISHED: usize = STATE + 1;
 
-pub const RAW: usize = 261;
+pub const RAW: usize = FINISHED + 1;
 
-pub const DECODED: usize = 262;
+pub const DECODED: usize = RAW + 1;
 
-pub const HELD: usize = 263;
+pub const HELD: usize = DECODED + 1;
 
-pub const HELD_BYTES: usize = 264;
+pub const HELD_BYTES: usize = HELD + 1;
 
-pub const LENGTH: usize = 273;
+pub const LENGTH: usize = HELD_BYTES + HELD_MOST;
 
-// One byte less than a form has at most.
-const HELD_MOST: usize = FORM_LIMIT - 1;
+// The limits as words of a scan value.
+const POSITION_LIMIT: u64 = limits::POSITION_LIMIT as u64;
 
-const POSITION_LIMIT: u64 = 63;
-
-const TEXT_LIMIT: u64 = 0xffff_ffff;
+const TEXT_LIMIT: u64 = limits::TEXT_LIMIT as u64;
 
 // A scan value's masks.
 pub fn masks_of(scan: &[u64]) -> Masks

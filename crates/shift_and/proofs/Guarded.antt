@@ -13,9 +13,9 @@ use lib.Bits.{bitAnd, bitOr, and-le-l, or-lt}
 use Rattle.shift_and.specs.Bit.{differs, bit, lend, borrow, minus}
 use Rattle.shift_and.specs.ForwardStep.{wrapSub, flood, blockStarts, blockEnds}
 use Rattle.shift_and.proofs.Digits.{and-bit, or-bit, not-bit, shl-bit, pushed, bit-above, wrapSub-bit}
-use Rattle.shift_and.proofs.Apart.{same-bits, apart}
+use Rattle.shift_and.proofs.DisjointBits.{same-bits, apart}
 use Rattle.shift_and.proofs.Closure.{closed, Blocks, before, closed-is, flood-bit, blocks}
-use Rattle.shift_and.proofs.Still.{flood-lt}
+use Rattle.shift_and.proofs.Unchanged.{flood-lt}
 
 never : true ≡ false → ⊥
 never p = subst (λ (b : Bool). T b) p tt

@@ -45,14 +45,14 @@ pub fn block_ends(a: u64) -> u64
 }
 
 // The states before any byte.
-pub fn opening(a: u64) -> u64
+pub fn start_state(a: u64) -> u64
     ensures { λ r. ⌜ r ≡ Step.opening 64 a ⌝ }
 {
     flood(1, a, block_starts(a), block_ends(a))
 }
 
 // Whether the bit of the top position reports an end.
-pub fn reports(d: u64, top: u64) -> bool
+pub fn accepts(d: u64, top: u64) -> bool
     requires { ⌜ top < 64 ⌝ }
     ensures { λ r. ⌜ r ≡ Step.topBit top d ⌝ }
 {

@@ -1,103 +1,103 @@
-// Walks for texts on which it cannot be foreseen whether the next byte floods, or ends an occurrence:
-// they flood at each byte, as the formula does, and one of them stores ends without a branch. They
-// promise what every walk promises. A look ahead tells such texts; only speed hangs on what it says.
+// Loops for texts on which a branch cannot be predicted: whether the next byte needs the flood, or ends an
+// occurrence. They flood at each byte, as the formula does, and one of them stores ends without a branch.
+// They promise what every loop promises. `closure_unpredictable` tells such texts by the next bytes; only
+// speed depends on what it says.
 ghost use mathlib.Core.Path.{_≡_};
 ghost use mathlib.Core.Bool.{true, cond};
 ghost use Prim.Native.Nat.{_<_, _≤_};
 ghost use lib.Dec.{eqb};
 ghost use lib.ListN.{length};
-ghost use Rattle.shift_and_loop.specs.Walking.{Walked, Room};
-ghost use Rattle.shift_and_step.specs.Settling.{BlocksOf, Settled};
-ghost use Rattle.shift_and_dense.specs.Pacing.{Reported};
-use shift_and_loop::Spot;
-use shift_and_step::Blocks;
+ghost use Rattle.shift_and_step.specs.Stepping.{TableFits};
+ghost use Rattle.shift_and_loop.specs.Loops.{Advanced, HasRoom};
+ghost use Rattle.shift_and_step.specs.ClosedStates.{ClosureMasksOf, Closed};
+ghost use Rattle.shift_and_dense.specs.Branchless.{AcceptBit};
+use shift_and_loop::Cursor;
+use shift_and_step::ClosureMasks;
 use shift_and_step::Masks;
 
-// Steps up to `until`, and floods at each byte, where the blocks are free.
-fn walk_flooding(
+// Steps up to `until`, and floods at each byte, where the blocks are separated.
+fn loop_separated(
     table: &[u64],
     m: Masks,
-    q: Blocks,
+    q: ClosureMasks,
     until: usize,
     text: &[u8],
     ends: &mut [u32],
-    s: Spot,
-) -> Spot
-    requires { ⌜ BlocksOf (m .optional) q ⌝ }
-    requires { ⌜ q .free ≡ true ⌝ }
-    requires { ⌜ length (now table) ≡ 256 ⌝ }
-    requires { ⌜ m .top < 64 ⌝ }
-    requires { ⌜ Room s until (now text) (now ends) ⌝ }
-    requires { ⌜ Settled m (s .d) ⌝ }
-    ensures { λ r. ⌜ Walked (now (table .entry)) m (now (text .entry)) (now (ends .entry)) (s .d) (s .at) (s .n) (s .i) r (now (ends .exit)) ⌝ }
+    s: Cursor,
+) -> Cursor
+    requires { ⌜ ClosureMasksOf (m .optional) q ⌝ }
+    requires { ⌜ q .separated ≡ true ⌝ }
+    requires { ⌜ TableFits (now table) m ⌝ }
+    requires { ⌜ HasRoom s until (now text) (now ends) ⌝ }
+    requires { ⌜ Closed m (s .d) ⌝ }
+    ensures { λ r. ⌜ Advanced (now (table .entry)) m (now (text .entry)) (now (ends .entry)) (s .d) (s .at) (s .n) (s .i) r (now (ends .exit)) ⌝ }
 {
     let mut d = s.d;
     let mut n = s.n;
     let mut i = s.i;
     while i < until {
-        let c = byte_search::index(text[i]);
-        d = shift_and_step::step_free(d, table[c], m, q);
+        let c = byte_search::byte_index(text[i]);
+        d = shift_and_step::step_closure_separated(d, table[c], m, q);
         i += 1;
-        if shift_and::reports(d, m.top) {
-            ends[n] = shift_and_loop::place(s, i);
+        if shift_and::accepts(d, m.top) {
+            ends[n] = shift_and_loop::count_before(s, i);
             n += 1;
         }
     }
-    Spot {
+    Cursor {
         d: d,
-        at: shift_and_loop::place(s, i),
+        at: shift_and_loop::count_before(s, i),
         n: n,
         i: i,
     }
 }
 
 // The same for any blocks.
-fn walk_tied(
+fn loop_closure_always(
     table: &[u64],
     m: Masks,
-    q: Blocks,
+    q: ClosureMasks,
     until: usize,
     text: &[u8],
     ends: &mut [u32],
-    s: Spot,
-) -> Spot
-    requires { ⌜ BlocksOf (m .optional) q ⌝ }
-    requires { ⌜ length (now table) ≡ 256 ⌝ }
-    requires { ⌜ m .top < 64 ⌝ }
-    requires { ⌜ Room s until (now text) (now ends) ⌝ }
-    requires { ⌜ Settled m (s .d) ⌝ }
-    ensures { λ r. ⌜ Walked (now (table .entry)) m (now (text .entry)) (now (ends .entry)) (s .d) (s .at) (s .n) (s .i) r (now (ends .exit)) ⌝ }
+    s: Cursor,
+) -> Cursor
+    requires { ⌜ ClosureMasksOf (m .optional) q ⌝ }
+    requires { ⌜ TableFits (now table) m ⌝ }
+    requires { ⌜ HasRoom s until (now text) (now ends) ⌝ }
+    requires { ⌜ Closed m (s .d) ⌝ }
+    ensures { λ r. ⌜ Advanced (now (table .entry)) m (now (text .entry)) (now (ends .entry)) (s .d) (s .at) (s .n) (s .i) r (now (ends .exit)) ⌝ }
 {
     let mut d = s.d;
     let mut n = s.n;
     let mut i = s.i;
     while i < until {
-        let c = byte_search::index(text[i]);
-        d = shift_and_step::step_flooding(d, table[c], m, q);
+        let c = byte_search::byte_index(text[i]);
+        d = shift_and_step::step_closure_always(d, table[c], m, q);
         i += 1;
-        if shift_and::reports(d, m.top) {
-            ends[n] = shift_and_loop::place(s, i);
+        if shift_and::accepts(d, m.top) {
+            ends[n] = shift_and_loop::count_before(s, i);
             n += 1;
         }
     }
-    Spot {
+    Cursor {
         d: d,
-        at: shift_and_loop::place(s, i),
+        at: shift_and_loop::count_before(s, i),
         n: n,
         i: i,
     }
 }
 
 // Whether the top position reports an end, as a number.
-fn report_bit(d: u64, top: u64) -> u64
+fn accept_bit(d: u64, top: u64) -> u64
     requires { ⌜ top < 64 ⌝ }
-    ensures { λ r. ⌜ Reported top d r ⌝ }
+    ensures { λ r. ⌜ AcceptBit top d r ⌝ }
 {
     (d >> top) % 2
 }
 
 // `at` where hit is 1, `old` where it is 0, without a branch.
-fn pick(hit: u64, at: u32, old: u32) -> u32
+fn select(hit: u64, at: u32, old: u32) -> u32
     requires { ⌜ hit < 2 ⌝ }
     ensures { λ r. ⌜ r ≡ cond (eqb hit 1) at old ⌝ }
 {
@@ -105,78 +105,75 @@ fn pick(hit: u64, at: u32, old: u32) -> u32
     old ^ ((old ^ at) & mask)
 }
 
-// The same where the blocks are free and ends stand close: each byte writes an entry, the end or what
+// The same where the blocks are separated and ends stand close: each byte writes an entry, the end or what
 // stood there.
-fn walk_dense(
+fn loop_branchless(
     table: &[u64],
     m: Masks,
-    q: Blocks,
+    q: ClosureMasks,
     until: usize,
     text: &[u8],
     ends: &mut [u32],
-    s: Spot,
-) -> Spot
-    requires { ⌜ BlocksOf (m .optional) q ⌝ }
-    requires { ⌜ q .free ≡ true ⌝ }
-    requires { ⌜ length (now table) ≡ 256 ⌝ }
-    requires { ⌜ m .top < 64 ⌝ }
-    requires { ⌜ Room s until (now text) (now ends) ⌝ }
-    requires { ⌜ Settled m (s .d) ⌝ }
-    ensures { λ r. ⌜ Walked (now (table .entry)) m (now (text .entry)) (now (ends .entry)) (s .d) (s .at) (s .n) (s .i) r (now (ends .exit)) ⌝ }
+    s: Cursor,
+) -> Cursor
+    requires { ⌜ ClosureMasksOf (m .optional) q ⌝ }
+    requires { ⌜ q .separated ≡ true ⌝ }
+    requires { ⌜ TableFits (now table) m ⌝ }
+    requires { ⌜ HasRoom s until (now text) (now ends) ⌝ }
+    requires { ⌜ Closed m (s .d) ⌝ }
+    ensures { λ r. ⌜ Advanced (now (table .entry)) m (now (text .entry)) (now (ends .entry)) (s .d) (s .at) (s .n) (s .i) r (now (ends .exit)) ⌝ }
 {
     let mut d = s.d;
     let mut n = s.n;
     let mut i = s.i;
     while i < until {
-        let c = byte_search::index(text[i]);
-        d = shift_and_step::step_free(d, table[c], m, q);
+        let c = byte_search::byte_index(text[i]);
+        d = shift_and_step::step_closure_separated(d, table[c], m, q);
         i += 1;
-        let hit = report_bit(d, m.top);
-        let at = shift_and_loop::place(s, i);
-        ends[n] = pick(hit, at, ends[n]);
+        let hit = accept_bit(d, m.top);
+        let at = shift_and_loop::count_before(s, i);
+        ends[n] = select(hit, at, ends[n]);
         n += hit as usize;
     }
-    Spot {
+    Cursor {
         d: d,
-        at: shift_and_loop::place(s, i),
+        at: shift_and_loop::count_before(s, i),
         n: n,
         i: i,
     }
 }
 
-// Walks without a test for floods: at least one byte, and only one where the state is not as a step
-// leaves it.
-pub fn walk_evenly(
+// The loop without a test for the flood: at least one byte, and only one where the state is not closed.
+pub fn run_dense_loop(
     table: &[u64],
     m: Masks,
-    q: Blocks,
+    q: ClosureMasks,
     many: bool,
     until: usize,
     text: &[u8],
     ends: &mut [u32],
-    s: Spot,
-) -> Spot
-    requires { ⌜ BlocksOf (m .optional) q ⌝ }
-    requires { ⌜ length (now table) ≡ 256 ⌝ }
-    requires { ⌜ m .top < 64 ⌝ }
-    requires { ⌜ Room s until (now text) (now ends) ⌝ }
-    ensures { λ r. ⌜ Walked (now (table .entry)) m (now (text .entry)) (now (ends .entry)) (s .d) (s .at) (s .n) (s .i) r (now (ends .exit)) ⌝ }
+    s: Cursor,
+) -> Cursor
+    requires { ⌜ ClosureMasksOf (m .optional) q ⌝ }
+    requires { ⌜ TableFits (now table) m ⌝ }
+    requires { ⌜ HasRoom s until (now text) (now ends) ⌝ }
+    ensures { λ r. ⌜ Advanced (now (table .entry)) m (now (text .entry)) (now (ends .entry)) (s .d) (s .at) (s .n) (s .i) r (now (ends .exit)) ⌝ }
 {
-    if shift_and_step::is_settled(m, q, s.d) {
-        if q.free {
+    if shift_and_step::is_closed(m, q, s.d) {
+        if q.separated {
             if many {
-                return walk_dense(table, m, q, until, text, ends, s);
+                return loop_branchless(table, m, q, until, text, ends, s);
             }
-            return walk_flooding(table, m, q, until, text, ends, s);
+            return loop_separated(table, m, q, until, text, ends, s);
         }
-        return walk_tied(table, m, q, until, text, ends, s);
+        return loop_closure_always(table, m, q, until, text, ends, s);
     }
-    shift_and_loop::walk_one(table, m, text, ends, s)
+    shift_and_loop::loop_once(table, m, text, ends, s)
 }
 
-// How many bytes a look ahead takes; and of how many floods, or changes between flooding and not, a walk
-// with a test for them does not pay. Where the blocks are not free a flood costs more: then it takes
-// more changes.
+// How many bytes are tried ahead; and of how many floods, or changes between flooding and not, a loop with
+// a test for them does not pay. Where the blocks are not separated a flood costs more: then it takes more
+// changes.
 const AHEAD: usize = 32;
 
 const FLOODS: u64 = 30;
@@ -193,10 +190,18 @@ fn one_if_any(x: u64) -> u64 {
 }
 
 // Whether the bytes from i on flood nearly all, or now and then. It takes no branch on what it counts.
-fn flickers(table: &[u64], m: Masks, q: Blocks, d: u64, until: usize, text: &[u8], i: usize) -> bool
-    requires { ⌜ BlocksOf (m .optional) q ⌝ }
+fn changes_often(
+    table: &[u64],
+    m: Masks,
+    q: ClosureMasks,
+    d: u64,
+    until: usize,
+    text: &[u8],
+    i: usize,
+) -> bool
+    requires { ⌜ ClosureMasksOf (m .optional) q ⌝ }
     requires { ⌜ length (now table) ≡ 256 ⌝ }
-    requires { ⌜ Settled m d ⌝ }
+    requires { ⌜ Closed m d ⌝ }
     requires { ⌜ until ≤ length (now text) ⌝ }
 {
     let mut d = d;
@@ -205,15 +210,15 @@ fn flickers(table: &[u64], m: Masks, q: Blocks, d: u64, until: usize, text: &[u8
     let mut changes = 0;
     let mut was = 0;
     while i < until {
-        let c = byte_search::index(text[i]);
-        d = shift_and_step::step_flooding(d, table[c], m, q);
+        let c = byte_search::byte_index(text[i]);
+        d = shift_and_step::step_closure_always(d, table[c], m, q);
         i += 1;
-        let is = one_if_any(d & q.touch);
+        let is = one_if_any(d & q.closing);
         floods = std::num::wrapping_add_u64(floods, is);
         changes = std::num::wrapping_add_u64(changes, is ^ was);
         was = is;
     }
-    if q.free {
+    if q.separated {
         if floods >= FLOODS {
             return true;
         }
@@ -222,17 +227,24 @@ fn flickers(table: &[u64], m: Masks, q: Blocks, d: u64, until: usize, text: &[u8
     changes >= MORE_CHANGES
 }
 
-// Whether the text from i on is such that a walk with a test for floods does not pay.
-pub fn is_restless(table: &[u64], m: Masks, q: Blocks, d: u64, text: &[u8], i: usize) -> bool
-    requires { ⌜ BlocksOf (m .optional) q ⌝ }
+// Whether the text from i on is such that a loop with a test for floods does not pay.
+pub fn closure_unpredictable(
+    table: &[u64],
+    m: Masks,
+    q: ClosureMasks,
+    d: u64,
+    text: &[u8],
+    i: usize,
+) -> bool
+    requires { ⌜ ClosureMasksOf (m .optional) q ⌝ }
     requires { ⌜ length (now table) ≡ 256 ⌝ }
     requires { ⌜ i ≤ length (now text) ⌝ }
 {
     if text.len() - i < AHEAD {
         return false;
     }
-    if shift_and_step::is_settled(m, q, d) {
-        return flickers(table, m, q, d, i + AHEAD, text, i);
+    if shift_and_step::is_closed(m, q, d) {
+        return changes_often(table, m, q, d, i + AHEAD, text, i);
     }
     false
 }

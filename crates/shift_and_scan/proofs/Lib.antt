@@ -1,4 +1,4 @@
 -- Laws on plain values; each function's own file only cites them.
-pub mod Leaps
+pub mod SegmentLaws
 pub mod Pairs
-pub mod Passing
+pub mod SkipLaws

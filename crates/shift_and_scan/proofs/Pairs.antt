@@ -17,17 +17,17 @@ use Rattle.model.proofs.Truth.{or-false-left, or-false-right, and-false, not-bo
 use Rattle.shift_and.specs.Bit.{bit}
 use Rattle.shift_and.specs.ForwardStep.{move, flood, advance, blockStarts, blockEnds, topBit}
 use Rattle.shift_and.proofs.Digits.{bit-above, and-bit, or-bit, none-bit}
-use Rattle.shift_and.proofs.Apart.{same-all, and-none, clear-below, Below, below-lt}
-use Rattle.shift_and.proofs.Still.{flood-still, true-right, one-bit}
+use Rattle.shift_and.proofs.DisjointBits.{same-all, and-none, clear-below, Below, below-lt}
+use Rattle.shift_and.proofs.Unchanged.{flood-still, true-right, one-bit}
 use Rattle.shift_and.proofs.Bridge.{top-bit}
-use Rattle.byte_search.specs.Looks.{Missed}
-use Rattle.prefilter_search.specs.Lookouts.{pairAt}
-use Rattle.prefilter.specs.Plans.{Paired}
+use Rattle.byte_search.specs.BlockTests.{NoneBefore}
+use Rattle.prefilter_search.specs.Candidates.{pairAt}
+use Rattle.prefilter.specs.Soundness.{PairSound}
 use Rattle.shift_and_step.specs.declared.Masks.{Masks}
 use Rattle.shift_and_step.specs.Stepping.{stepN, stepOn, stateAfter, endsIn}
-use Rattle.shift_and_loop.specs.Walking.{Passed}
-use Rattle.shift_and_loop.proofs.Turns.{state-turn, ends-turn}
-use Rattle.shift_and_scan.proofs.Leaps.{pass-missed}
+use Rattle.shift_and_loop.specs.Loops.{Skippable}
+use Rattle.shift_and_loop.proofs.LoopLaws.{state-turn, ends-turn}
+use Rattle.shift_and_scan.proofs.SegmentLaws.{pass-missed}
 
 -- ---- the step at plain positions
 
@@ -53,7 +53,7 @@ plainly-suc d e i =
     ∙ ap₂ (λ (p q : Bool). p || q) (and-bit (d * 2) e (suc i) ∙ ap (λ (b : Bool). b && bit e (suc i)) (double-bit d i)) (one-bit i)
     ∙ or-no (bit d i && bit e (suc i))
 
-module _ (t : List ℕ) (m : Masks) (a b x y : ℕ) (h : Paired t (m .repeats) (m .optional) (m .top) a b x y) where
+module _ (t : List ℕ) (m : Masks) (a b x y : ℕ) (h : PairSound t (m .repeats) (m .optional) (m .top) a b x y) where
   neither : (i : ℕ) → i < b + 2 → (bit (m .optional) i || bit (m .repeats) i) ≡ false
   neither i l = sym (or-bit (m .optional) (m .repeats) i) ∙ clear-below (bitOr (m .optional) (m .repeats)) (b + 2) (h .plain) i l
 
@@ -134,7 +134,7 @@ only-one c x n e f s = go (decLt c x) (decLt x c)
     go (no l) (yes q) = absurd (no-way (λ e. omega arith))
     go (no l) (no q) = omega arith
 
-module _ (t : List ℕ) (m : Masks) (a b x y : ℕ) (h : Paired t (m .repeats) (m .optional) (m .top) a b x y) (text : List ℕ) (k : ℕ) (long : k + b < length text)
+module _ (t : List ℕ) (m : Masks) (a b x y : ℕ) (h : PairSound t (m .repeats) (m .optional) (m .top) a b x y) (text : List ℕ) (k : ℕ) (long : k + b < length text)
     (miss : pairAt text a b x y k ≡ false) where
   abbrev entry : ℕ → ℕ
   entry j = getD t (getD text (k + j) 0) 0
@@ -245,7 +245,7 @@ module _ (t : List ℕ) (m : Masks) (a b x y : ℕ) (h : Paired t (m .repeats) (
       step-plainly t m a b x y h 0 e (λ i p. none-bit i) (ap (λ (p : Bool). p && bit e (suc b)) (none-bit b)) ∙ ap (λ (n : ℕ). bitOr n 1) (and-zero-l e)
 
   -- the start is passed over
-  pass-start : Passed t m 1 text k (k + 1)
+  pass-start : Skippable t m 1 text k (k + 1)
   pass-start =
       let al : Alike t m text k 1 0 = rw add-zero at (near-alike (b + 1) 0 1 0 (add-zero (b + 1)) near-start) in
       let l : k < length text = omega arith in
@@ -261,7 +261,7 @@ module _ (t : List ℕ) (m : Masks) (a b x y : ℕ) (h : Paired t (m .repeats) (
 
 -- ---- all the starts up to r
 
-pub pair-passes : (t : List ℕ) (m : Masks) (a b x y : ℕ) → Paired t (m .repeats) (m .optional) (m .top) a b x y → (text : List ℕ) (i end r : ℕ)
-    → Missed (pairAt text a b x y) i end r → end + b ≤ length text → Passed t m 1 text i r
+pub pair-passes : (t : List ℕ) (m : Masks) (a b x y : ℕ) → PairSound t (m .repeats) (m .optional) (m .top) a b x y → (text : List ℕ) (i end r : ℕ)
+    → NoneBefore (pairAt text a b x y) i end r → end + b ≤ length text → Skippable t m 1 text i r
 pair-passes t m a b x y h text i end r g l =
     pass-missed (pairAt text a b x y) (omega arith) (λ k p z. pass-start t m a b x y h text k (omega arith) z) g

@@ -11,12 +11,12 @@ use Rattle.shift_and.specs.Bit.{isSet, bit}
 use Rattle.shift_and.specs.ForwardStep.{wrapSub, move, flood, advance, blockStarts, blockEnds, opening}
 use Rattle.shift_and.proofs.Digits.{or-bit, wrapped}
 use Rattle.shift_and.proofs.Guarded.{flood-guarded}
-use Rattle.shift_and.proofs.Still.{flood-none, flood-lt, move-lt, move-odd, bit-odd, odd-bit}
-use Rattle.shift_and.proofs.Settled.{flood-again, flood-home, flood-quiet, home-in, home-lt, has-beside}
+use Rattle.shift_and.proofs.Unchanged.{flood-none, flood-lt, move-lt, move-odd, bit-odd, odd-bit}
+use Rattle.shift_and.proofs.ClosedStates.{flood-again, flood-start, flood-quiet, start-in, start-lt, has-beside}
 use Rattle.shift_and_step.specs.declared.Masks.{Masks}
-use Rattle.shift_and_step.specs.declared.Blocks.{Blocks}
+use Rattle.shift_and_step.specs.declared.ClosureMasks.{ClosureMasks}
 use Rattle.shift_and_step.specs.Stepping.{stepN}
-use Rattle.shift_and_step.specs.Settling.{BlocksOf, Settled, SettledIs, StepsTo, Stays}
+use Rattle.shift_and_step.specs.ClosedStates.{ClosureMasksOf, Closed, ClosedIs, StepsTo, Fixpoint}
 
 -- nothing is optional: the step is the move
 pub step-none : (m : Masks) (k d b x : ℕ) → m .optional ≡ 0 → x ≡ move 64 d b (bitAnd b (m .repeats)) k → x ≡ stepN m k d b
@@ -45,9 +45,9 @@ unfolding bit
 even-bit x e = ap isSet e
 
 -- every step leaves one
-pub step-settles : (m : Masks) (d b x : ℕ) → m .optional % 2 ≡ 0 → m .optional < 2 ^ 64 → b < 2 ^ 64 → x ≡ stepN m 1 d b → Settled m x
+pub step-closes : (m : Masks) (d b x : ℕ) → m .optional % 2 ≡ 0 → m .optional < 2 ^ 64 → b < 2 ^ 64 → x ≡ stepN m 1 d b → Closed m x
 unfolding stepN advance
-step-settles m d b x even word hb e =
+step-closes m d b x even word hb e =
     let a = m .optional in
     let y = move 64 d b (bitAnd b (m .repeats)) 1 in
     let hy : y < 2 ^ 64 = move-lt 64 d b (bitAnd b (m .repeats)) 1 hb (lt-of-le-of-lt (and-le-l b (m .repeats)) hb) (omega arith) in
@@ -59,14 +59,14 @@ step-settles m d b x even word hb e =
       flooded = rw e (flood-again 64 a word (even-bit a even) y hy);
     }
 
-module _ (m : Masks) (q : Blocks) (of : BlocksOf (m .optional) q) {d : ℕ} (s : Settled m d) where
+module _ (m : Masks) (q : ClosureMasks) (of : ClosureMasksOf (m .optional) q) {d : ℕ} (s : Closed m d) where
   abbrev washed : ℕ → ℕ
   washed x = flood 64 x (m .optional) (blockStarts 64 (m .optional)) (blockEnds 64 (m .optional))
 
-  pub has-home : bitAnd d (q .home) ≡ q .home
-  has-home = rw (of .home) (home-in 64 (m .optional) (s .word) (even-bit (m .optional) (s .even)) (omega arith) d (s .small) (odd-bit d (s .odd)) (s .flooded))
+  pub has-start : bitAnd d (q .start) ≡ q .start
+  has-start = rw (of .start) (start-in 64 (m .optional) (s .word) (even-bit (m .optional) (s .even)) (omega arith) d (s .small) (odd-bit d (s .odd)) (s .flooded))
 
-  module _ {b x : ℕ} (hb : b < 2 ^ 64) (ex : x ≡ move 64 d b (bitAnd b (m .repeats)) (q .home)) where
+  module _ {b x : ℕ} (hb : b < 2 ^ 64) (ex : x ≡ move 64 d b (bitAnd b (m .repeats)) (q .start)) where
     y : ℕ
     y = bitOr (bitAnd (d * 2 % 2 ^ 64) b) (bitAnd d (bitAnd b (m .repeats)))
 
@@ -78,30 +78,30 @@ module _ (m : Masks) (q : Blocks) (of : BlocksOf (m .optional) q) {d : ℕ} (s :
 
     x-is : x ≡ bitOr y (opening 64 (m .optional))
     unfolding y move
-    x-is = ex ∙ ap (bitOr (bitOr (bitAnd (d * 2 % 2 ^ 64) b) (bitAnd d (bitAnd b (m .repeats))))) (of .home)
+    x-is = ex ∙ ap (bitOr (bitOr (bitAnd (d * 2 % 2 ^ 64) b) (bitAnd d (bitAnd b (m .repeats))))) (of .start)
 
     x-lt : x < 2 ^ 64
-    x-lt = rw x-is (or-lt 64 y (opening 64 (m .optional)) y-lt (home-lt 64 (m .optional) (s .word) (even-bit (m .optional) (s .even)) (omega arith)))
+    x-lt = rw x-is (or-lt 64 y (opening 64 (m .optional)) y-lt (start-lt 64 (m .optional) (s .word) (even-bit (m .optional) (s .even)) (omega arith)))
 
     -- the step is the flood of x
     by-flood : washed x ≡ stepN m 1 d b
     unfolding stepN advance y move
-    by-flood = ap washed x-is ∙ flood-home 64 (m .optional) (s .word) (even-bit (m .optional) (s .even)) (omega arith) y y-lt
+    by-flood = ap washed x-is ∙ flood-start 64 (m .optional) (s .word) (even-bit (m .optional) (s .even)) (omega arith) y y-lt
 
     settles : {r : ℕ} → r ≡ stepN m 1 d b → StepsTo m d b r
-    settles {r} e = record { is = e; settles = step-settles m d b r (s .even) (s .word) hb e }
+    settles {r} e = record { is = e; settles = step-closes m d b r (s .even) (s .word) hb e }
 
     -- x touches nothing
-    pub step-still : bitAnd x (q .touch) ≡ 0 → StepsTo m d b x
+    pub step-still : bitAnd x (q .closing) ≡ 0 → StepsTo m d b x
     step-still z =
         let has : bitAnd x (opening 64 (m .optional)) ≡ opening 64 (m .optional) = rw x-is (has-beside y (opening 64 (m .optional))) in
-        settles (sym (flood-quiet 64 (m .optional) (s .word) (even-bit (m .optional) (s .even)) (omega arith) x x-lt has (rw (← of .touch) z)) ∙ by-flood)
+        settles (sym (flood-quiet 64 (m .optional) (s .word) (even-bit (m .optional) (s .even)) (omega arith) x x-lt has (rw (← of .closing) z)) ∙ by-flood)
 
-    pub step-plain : q .touch ≡ 0 → StepsTo m d b x
+    pub step-plain : q .closing ≡ 0 → StepsTo m d b x
     step-plain z = step-still (ap (bitAnd x) z ∙ and-zero-r x)
 
     -- x is the state before
-    pub stays-where : Stays m d b (eqb x d)
+    pub stays-where : Fixpoint m d b (eqb x d)
     stays-where = record { says = λ t. sym (sym (s .flooded) ∙ ap washed (sym (eqb-true x d t)) ∙ by-flood) }
 
     pub step-flood : {r : ℕ} → r ≡ flood 64 x (m .optional) (blockStarts 64 (m .optional)) (blockEnds 64 (m .optional)) → StepsTo m d b r
@@ -109,8 +109,8 @@ module _ (m : Masks) (q : Blocks) (of : BlocksOf (m .optional) q) {d : ℕ} (s :
 
 -- ---- `is_settled`
 
-pub settled : (m : Masks) (q : Blocks) (d f : ℕ) → BlocksOf (m .optional) q → m .optional < 2 ^ 64 → d < 2 ^ 64 → m .optional % 2 ≡ 0 → d % 2 ≡ 1
-    → f ≡ flood 64 d (m .optional) (blockStarts 64 (m .optional)) (blockEnds 64 (m .optional)) → {r : Bool} → r ≡ eqb f d → SettledIs m d r
+pub settled : (m : Masks) (q : ClosureMasks) (d f : ℕ) → ClosureMasksOf (m .optional) q → m .optional < 2 ^ 64 → d < 2 ^ 64 → m .optional % 2 ≡ 0 → d % 2 ≡ 1
+    → f ≡ flood 64 d (m .optional) (blockStarts 64 (m .optional)) (blockEnds 64 (m .optional)) → {r : Bool} → r ≡ eqb f d → ClosedIs m d r
 settled m q d f of word small even odd e {r} er = record {
   says = λ t. record {
     even = even;
@@ -122,11 +122,11 @@ settled m q d f of word small even odd e {r} er = record {
 }
 
 -- the opening state is one
-pub home-settled : (m : Masks) (q : Blocks) (d : ℕ) → BlocksOf (m .optional) q → m .optional < 2 ^ 64 → m .optional % 2 ≡ 0 → d ≡ q .home → SettledIs m d true
+pub start-closed : (m : Masks) (q : ClosureMasks) (d : ℕ) → ClosureMasksOf (m .optional) q → m .optional < 2 ^ 64 → m .optional % 2 ≡ 0 → d ≡ q .start → ClosedIs m d true
 unfolding opening
-home-settled m q d of word even e =
+start-closed m q d of word even e =
     let a = m .optional in
-    let k : d ≡ flood 64 1 a (blockStarts 64 a) (blockEnds 64 a) = e ∙ of .home in
+    let k : d ≡ flood 64 1 a (blockStarts 64 a) (blockEnds 64 a) = e ∙ of .start in
     record {
       says = λ t. record {
         even = even;
@@ -137,28 +137,28 @@ home-settled m q d of word even e =
       };
     }
 
-pub unsettled : (m : Masks) (d : ℕ) → SettledIs m d false
+pub unsettled : (m : Masks) (d : ℕ) → ClosedIs m d false
 unsettled m d = record { says = λ t. absurd (no t) }
   where
     no : false ≡ true → ⊥
     no p = subst (λ (b : Bool). T b) (sym p) tt
 
-pub settled-by : {m : Masks} {d : ℕ} {r : Bool} → SettledIs m d r → r ≡ true → Settled m d
-settled-by s t = s .says t
+pub closed-by : {m : Masks} {d : ℕ} {r : Bool} → ClosedIs m d r → r ≡ true → Closed m d
+closed-by s t = s .says t
 
 -- ---- `blocks_of`
 
 pub blocks-are : {optional home first last less : ℕ} {free stays : Bool} → home ≡ opening 64 optional → first ≡ blockStarts 64 optional → last ≡ blockEnds 64 optional → first < 2 ^ 64 → less < 2 ^ 64
     → (less + 1) % 2 ^ 64 ≡ first → free ≡ eqb (bitAnd (last * 2 % 2 ^ 64) first) 0
-    → BlocksOf optional (record { home = home; less = less; last = last; guard = last * 2 % 2 ^ 64; touch = bitAnd (bitOr optional first) ((2 ^ 64 - 1) - home); free = free; stays = stays })
+    → ClosureMasksOf optional (record { start = home; minuend = less; ends = last; past = last * 2 % 2 ^ 64; closing = bitAnd (bitOr optional first) ((2 ^ 64 - 1) - home); separated = free; starred = stays })
 blocks-are {optional} {home} {first} {last} {less} eh ef el hf hl e k = record {
-  home = eh;
-  less = wrapped first 1 less (omega arith) hl e ∙ ap (λ (i : ℕ). wrapSub 64 i 1) ef;
+  start = eh;
+  minuend = wrapped first 1 less (omega arith) hl e ∙ ap (λ (i : ℕ). wrapSub 64 i 1) ef;
   small = rw ef at hf;
-  last = el;
-  guard = rw el;
-  free = λ t. rw (← ef) (eqb-true (bitAnd (last * 2 % 2 ^ 64) first) 0 (sym k ∙ t));
-  touch = rw (eh, ef);
+  ends = el;
+  past = rw el;
+  separated = λ t. rw (← ef) (eqb-true (bitAnd (last * 2 % 2 ^ 64) first) 0 (sym k ∙ t));
+  closing = rw (eh, ef);
 }
 
 -- ---- `flooded`
@@ -167,27 +167,27 @@ blocks-are {optional} {home} {first} {last} {less} eh ef el hf hl e k = record {
 turned : (g i l t : ℕ) → g < 2 ^ 64 → i < 2 ^ 64 → t < 2 ^ 64 → l ≡ wrapSub 64 i 1 → (t + g) % 2 ^ 64 ≡ l → t ≡ (2 ^ 64 - 1) - wrapSub 64 g i
 turned g i l t hg hi ht el e = omega arith
 
-pub flood-turned : (optional : ℕ) (q : Blocks) → BlocksOf optional q → (d t : ℕ) → d < 2 ^ 64 → q .last < 2 ^ 64 → t < 2 ^ 64 → (t + bitOr d (q .last)) % 2 ^ 64 ≡ q .less
-    → bitOr d (bitAnd optional (bitXor t (bitOr d (q .last)))) ≡ flood 64 d optional (blockStarts 64 optional) (blockEnds 64 optional)
+pub flood-turned : (optional : ℕ) (q : ClosureMasks) → ClosureMasksOf optional q → (d t : ℕ) → d < 2 ^ 64 → q .ends < 2 ^ 64 → t < 2 ^ 64 → (t + bitOr d (q .ends)) % 2 ^ 64 ≡ q .minuend
+    → bitOr d (bitAnd optional (bitXor t (bitOr d (q .ends)))) ≡ flood 64 d optional (blockStarts 64 optional) (blockEnds 64 optional)
 unfolding flood
 flood-turned optional q of d t hd hl ht e =
-    let g = bitOr d (q .last) in
-    let hg : g < 2 ^ 64 = or-lt 64 d (q .last) hd hl in
-    let k : t ≡ (2 ^ 64 - 1) - wrapSub 64 g (blockStarts 64 optional) = turned g (blockStarts 64 optional) (q .less) t hg (of .small) ht (of .less) e in
-    ap (λ (n : ℕ). bitOr d (bitAnd optional (bitXor n g))) k ∙ ap (λ (f : ℕ). bitOr d (bitAnd optional (bitXor ((2 ^ 64 - 1) - wrapSub 64 (bitOr d f) (blockStarts 64 optional)) (bitOr d f)))) (of .last)
+    let g = bitOr d (q .ends) in
+    let hg : g < 2 ^ 64 = or-lt 64 d (q .ends) hd hl in
+    let k : t ≡ (2 ^ 64 - 1) - wrapSub 64 g (blockStarts 64 optional) = turned g (blockStarts 64 optional) (q .minuend) t hg (of .small) ht (of .minuend) e in
+    ap (λ (n : ℕ). bitOr d (bitAnd optional (bitXor n g))) k ∙ ap (λ (f : ℕ). bitOr d (bitAnd optional (bitXor ((2 ^ 64 - 1) - wrapSub 64 (bitOr d f) (blockStarts 64 optional)) (bitOr d f)))) (of .ends)
 
 -- ---- `flooded_free`
 
-pub flood-free : (optional : ℕ) (q : Blocks) → BlocksOf optional q → q .free ≡ true → optional % 2 ≡ 0 → optional < 2 ^ 64 → (d t : ℕ) → d < 2 ^ 64 → q .guard < 2 ^ 64 → t < 2 ^ 64
-    → (t + bitOr d (q .guard)) % 2 ^ 64 ≡ q .less
+pub flood-free : (optional : ℕ) (q : ClosureMasks) → ClosureMasksOf optional q → q .separated ≡ true → optional % 2 ≡ 0 → optional < 2 ^ 64 → (d t : ℕ) → d < 2 ^ 64 → q .past < 2 ^ 64 → t < 2 ^ 64
+    → (t + bitOr d (q .past)) % 2 ^ 64 ≡ q .minuend
     → bitOr d (bitAnd optional t) ≡ flood 64 d optional (blockStarts 64 optional) (blockEnds 64 optional)
 flood-free optional q of free even word d t hd hg ht e =
-    let g = bitOr d (q .guard) in
+    let g = bitOr d (q .past) in
     let k : t ≡ (2 ^ 64 - 1) - wrapSub 64 g (blockStarts 64 optional) =
-    turned g (blockStarts 64 optional) (q .less) t (or-lt 64 d (q .guard) hd hg) (of .small) ht (of .less) e in
+    turned g (blockStarts 64 optional) (q .minuend) t (or-lt 64 d (q .past) hd hg) (of .small) ht (of .minuend) e in
     ap (λ (n : ℕ). bitOr d (bitAnd optional n)) k
-    ∙ ap (λ (h : ℕ). bitOr d (bitAnd optional ((2 ^ 64 - 1) - wrapSub 64 (bitOr d h) (blockStarts 64 optional)))) (of .guard)
-    ∙ flood-guarded 64 d optional hd word (even-bit optional even) (rw (of .guard) at (of .free free))
+    ∙ ap (λ (h : ℕ). bitOr d (bitAnd optional ((2 ^ 64 - 1) - wrapSub 64 (bitOr d h) (blockStarts 64 optional)))) (of .past)
+    ∙ flood-guarded 64 d optional hd word (even-bit optional even) (rw (of .past) at (of .separated free))
 
-pub even-of : {m : Masks} {d : ℕ} → Settled m d → m .optional % 2 ≡ 0
+pub even-of : {m : Masks} {d : ℕ} → Closed m d → m .optional % 2 ≡ 0
 even-of s = s .even

@@ -1,3 +1,3 @@
 -- What the contracts cite.
 pub mod Stepping
-pub mod Settling
+pub mod ClosedStates

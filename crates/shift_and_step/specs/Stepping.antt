@@ -1,9 +1,10 @@
 -- Document 01, "Forward step", over some decoded bytes: the state after them, and the ends among them, at any table of 256 words and any masks. Assumes
 -- nothing.
+use mathlib.Core.Path.{_≡_}
 use mathlib.Core.List.{List, [], _∷_}
-use Prim.Native.Nat.{ℕ, _+_}
+use Prim.Native.Nat.{ℕ, _+_, _<_}
 use lib.Bits.{bitAnd}
-use lib.ListN.{getD}
+use lib.ListN.{length, getD}
 use Rattle.model.specs.Occurrence.{consIf}
 use Rattle.shift_and.specs.ForwardStep.{advance, blockStarts, blockEnds, topBit}
 use Rattle.shift_and_step.specs.declared.Masks.{Masks}
@@ -25,3 +26,8 @@ stateAfter t m d (c ∷ cs) = stateAfter t m (stepOn t m d c) cs
 unfoldable pub endsIn : (t : List ℕ) → Masks → (d at : ℕ) → List ℕ → List ℕ
 endsIn t m d at [] = []
 endsIn t m d at (c ∷ cs) = consIf (topBit (m .top) (stepOn t m d c)) (at + 1) (endsIn t m (stepOn t m d c) (at + 1) cs)
+
+-- What every function over a table asks: an entry for each byte, and a top position that is a bit of a word.
+pub record TableFits (t : List ℕ) (m : Masks) : Type 0 where
+  pub long : length t ≡ 256
+  pub top : m .top < 64

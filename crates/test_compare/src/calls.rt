@@ -1,9 +1,9 @@
 // Each call of the finder next to that of `oracle`, with what they were lent.
 ghost use Prim.Native.Nat.{_≤_};
+use decoder::Answer;
 use oracle::Called;
 use oracle::Plain;
 use oracle::rule::Rule;
-use decoder::Answer;
 use test_io::tally;
 
 // Entries of the lists and buffers that the calls are lent parts of.

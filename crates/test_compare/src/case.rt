@@ -132,7 +132,7 @@ fn compare_scan(
     tally: &mut [u64],
 ) {
     if r.number == 0 {
-        crate::scan::compare(rule, fold, raw, r, table, random, tally);
+        crate::scans::compare(rule, fold, raw, r, table, random, tally);
         return;
     }
     let same = calls::refuses_zeros(raw, tally);

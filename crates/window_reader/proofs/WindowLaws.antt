@@ -13,7 +13,7 @@ use Rattle.model.proofs.Truth.{or-false-left, or-false-right}
 use Rattle.shift_and.specs.ForwardStep.{topBit}
 use Rattle.shift_and_step.specs.declared.Masks.{Masks}
 use Rattle.shift_and_step.specs.Stepping.{stepN}
-use Rattle.window_reader.specs.Reading.{every, stepAt, seenN, Window, FirstIs, Looking, SeenIs, QuietIs}
+use Rattle.window_reader.specs.Reading.{every, stepAt, seenN, Window, LastByteStates, Unread, WindowIs, SurelyMisses}
 
 module _ (t : List ℕ) (m : Masks) (text : List ℕ) (w d last : ℕ) where
   -- one turn of the definition
@@ -25,23 +25,23 @@ module _ (t : List ℕ) (m : Masks) (text : List ℕ) (w d last : ℕ) where
   seen-turn (suc j) h = let e : suc j - 1 ≡ j = omega arith in rw e
 
 module _ (t : List ℕ) (m : Masks) (size : ℕ) (text : List ℕ) (w : ℕ) where
-  pub look-begun : Window size w (length text) → Looking t m size text w every size (size - 1)
+  pub look-begun : Window size w (length text) → Unread t m size text w every size (size - 1)
   look-begun f = let h = f .some in record { below = omega arith; moves = h; short = omega arith; rest = refl }
 
-  module _ {d last j : ℕ} (g : Looking t m size text w d last j) where
+  module _ {d last j : ℕ} (g : Unread t m size text w d last j) where
     module _ {b d′ : ℕ} (h : 0 < j) (eb : b ≡ getD text (w + j) 0) (es : d′ ≡ stepN m 0 d (getD t b 0)) where
       e : d′ ≡ stepAt t m text 0 d (w + j)
       e = rw (← eb) es
 
       -- no state is left
-      pub look-emptied : d′ ≡ 0 → SeenIs t m size text w (record { shift = last; hit = false })
+      pub look-emptied : d′ ≡ 0 → WindowIs t m size text w (record { shift = last; hit = false })
       look-emptied z =
           let q = seen-turn t m text w d last j h in
           record { is = sym (rw (← e, eq-eqb _ _ z) at q) ∙ g .rest; moves = g .moves; short = g .short }
 
       module _ (z : d′ ≡ 0 → ⊥) where
         -- the bytes from j on begin no string, or they begin one
-        pub look-passed : {q : Bool} → q ≡ topBit (m .top) d′ → q ≡ false → Looking t m size text w d′ last (j - 1)
+        pub look-passed : {q : Bool} → q ≡ topBit (m .top) d′ → q ≡ false → Unread t m size text w d′ last (j - 1)
         look-passed p k =
             let q = seen-turn t m text w d last j h in
             record {
@@ -51,7 +51,7 @@ module _ (t : List ℕ) (m : Masks) (size : ℕ) (text : List ℕ) (w : ℕ) whe
               rest = sym (rw (← e, ne-eqb _ _ z, ← p, k) at q) ∙ g .rest;
             }
 
-        pub look-begins : {q : Bool} → q ≡ topBit (m .top) d′ → q ≡ true → Looking t m size text w d′ j (j - 1)
+        pub look-begins : {q : Bool} → q ≡ topBit (m .top) d′ → q ≡ true → Unread t m size text w d′ j (j - 1)
         look-begins p k =
             let q = seen-turn t m text w d last j h in
             record {
@@ -63,7 +63,7 @@ module _ (t : List ℕ) (m : Masks) (size : ℕ) (text : List ℕ) (w : ℕ) whe
 
     -- byte 0
     pub look-over : (b d′ : ℕ) (q : Bool) → j ≤ 0 → b ≡ getD text w 0 → d′ ≡ stepN m 0 d (getD t b 0) → q ≡ topBit (m .top) d′
-        → SeenIs t m size text w (record { shift = last; hit = q })
+        → WindowIs t m size text w (record { shift = last; hit = q })
     unfolding seenN
     look-over b d′ p z eb es ep =
         let j0 : j ≡ 0 = omega arith in
@@ -72,45 +72,45 @@ module _ (t : List ℕ) (m : Masks) (size : ℕ) (text : List ℕ) (w : ℕ) whe
 
 -- ---- `window_shift`: the last byte, by the table of first steps
 
-module _ (t : List ℕ) (m : Masks) (size : ℕ) (text : List ℕ) (w : ℕ) (f : Window size w (length text)) {first : List ℕ} (fs : FirstIs t m first) {b d : ℕ}
+module _ (t : List ℕ) (m : Masks) (size : ℕ) (text : List ℕ) (w : ℕ) (f : Window size w (length text)) {first : List ℕ} (fs : LastByteStates t m first) {b d : ℕ}
     (eb : b ≡ getD text (w + (size - 1)) 0) (small : b < 256) (ed : d ≡ getD first b 0) where
   stepped : d ≡ stepN m 0 every (getD t b 0)
   stepped = ed ∙ fs .is b small
 
   -- a window of one byte
-  pub first-alone : (q : Bool) → size - 1 ≡ 0 → q ≡ topBit (m .top) d → SeenIs t m size text w (record { shift = size; hit = q })
+  pub first-alone : (q : Bool) → size - 1 ≡ 0 → q ≡ topBit (m .top) d → WindowIs t m size text w (record { shift = size; hit = q })
   first-alone q z e =
       let k : w + (size - 1) ≡ w = omega arith in
       look-over t m size text w (look-begun t m size text w f) b d q (omega arith) (eb ∙ ap (λ (i : ℕ). getD text i 0) k) stepped e
 
   module _ (n : size - 1 ≡ 0 → ⊥) where
-    pub first-emptied : d ≡ 0 → SeenIs t m size text w (record { shift = size; hit = false })
+    pub first-emptied : d ≡ 0 → WindowIs t m size text w (record { shift = size; hit = false })
     first-emptied z = look-emptied t m size text w (look-begun t m size text w f) (omega arith) eb stepped z
 
     module _ (z : d ≡ 0 → ⊥) where
-      pub first-begins : {q : Bool} → q ≡ topBit (m .top) d → q ≡ true → Looking t m size text w d (size - 1) (size - 1 - 1)
+      pub first-begins : {q : Bool} → q ≡ topBit (m .top) d → q ≡ true → Unread t m size text w d (size - 1) (size - 1 - 1)
       first-begins e k = look-begins t m size text w (look-begun t m size text w f) (omega arith) eb stepped z e k
 
-      pub first-passed : {q : Bool} → q ≡ topBit (m .top) d → q ≡ false → Looking t m size text w d size (size - 1 - 1)
+      pub first-passed : {q : Bool} → q ≡ topBit (m .top) d → q ≡ false → Unread t m size text w d size (size - 1 - 1)
       first-passed e k = look-passed t m size text w (look-begun t m size text w f) (omega arith) eb stepped z e k
 
   -- ---- `is_quiet`: the last two bytes
 
   module _ {b′ x : ℕ} (eb′ : b′ ≡ getD text (w + (size - 1 - 1)) 0) (ex : x ≡ stepN m 0 d (getD t b′ 0)) {begins : Bool} (ebegins : begins ≡ topBit (m .top) d) where
-    pub quiet-pair : 2 ≤ size → {hit : Bool} → size - 1 - 1 ≡ 0 → hit ≡ topBit (m .top) x → QuietIs t m size text w (not (begins || hit))
+    pub quiet-pair : 2 ≤ size → {hit : Bool} → size - 1 - 1 ≡ 0 → hit ≡ topBit (m .top) x → SurelyMisses t m size text w (not (begins || hit))
     quiet-pair two {hit} e eh = record { says = λ y. go (not-true (begins || hit) y) (decLt 0 d) }
       where
-        go : (begins || hit) ≡ false → Dec (0 < d) → SeenIs t m size text w (record { shift = size; hit = false })
+        go : (begins || hit) ≡ false → Dec (0 < d) → WindowIs t m size text w (record { shift = size; hit = false })
         go n (no l) = first-emptied (λ z. omega arith) (omega arith)
         go n (yes l) =
             let k = first-passed (λ z. omega arith) (λ z. omega arith) ebegins (or-false-left begins hit n) in
             let at : w + (size - 1 - 1) ≡ w = omega arith in
             rw (or-false-right begins hit n) at (look-over t m size text w k b′ x hit (omega arith) (eb′ ∙ ap (λ (i : ℕ). getD text i 0) at) ex eh)
 
-    pub quiet-long : 2 ≤ size → (size - 1 - 1 ≡ 0 → ⊥) → QuietIs t m size text w (not (begins || not (eqb x 0)))
+    pub quiet-long : 2 ≤ size → (size - 1 - 1 ≡ 0 → ⊥) → SurelyMisses t m size text w (not (begins || not (eqb x 0)))
     quiet-long two e = record { says = λ y. go (not-true (begins || not (eqb x 0)) y) (decLt 0 d) }
       where
-        go : (begins || not (eqb x 0)) ≡ false → Dec (0 < d) → SeenIs t m size text w (record { shift = size; hit = false })
+        go : (begins || not (eqb x 0)) ≡ false → Dec (0 < d) → WindowIs t m size text w (record { shift = size; hit = false })
         go n (no l) = first-emptied (λ z. omega arith) (omega arith)
         go n (yes l) =
             let k = first-passed (λ z. omega arith) (λ z. omega arith) ebegins (or-false-left begins (not (eqb x 0)) n) in
@@ -138,5 +138,5 @@ module _ (t : List ℕ) (m : Masks) where
             let q : c ≡ n = omega arith in
             rw q (getD-set-same first n d 0 (omega (arith, g .long)) ∙ e)
 
-    pub firsts-over : 256 ≤ n → FirstIs t m first
+    pub firsts-over : 256 ≤ n → LastByteStates t m first
     firsts-over h = record { long = g .long; is = λ c l. g .is c (omega arith) }

@@ -10,7 +10,7 @@ use lib.Dec.{eqb}
 use Rattle.shift_and.specs.ForwardStep.{opening, topBit}
 use Rattle.shift_and_step.specs.declared.Masks.{Masks}
 use Rattle.shift_and_step.specs.Stepping.{stepN}
-use Rattle.window_reader.specs.declared.Seen.{Seen}
+use Rattle.window_reader.specs.declared.WindowResult.{WindowResult}
 use Rattle.window_reader.specs.declared.End.{End}
 use Rattle.window_reader.specs.declared.End.the-variants.{At, Dead, Open}
 
@@ -30,7 +30,7 @@ module _ (t : List ℕ) (m : Masks) (text : List ℕ) where
 
   -- A window read backwards: the bytes j .. 1 of window w are still to be read, and then byte 0; `last` is the least place so far from which the bytes begin
   -- a string.
-  unfoldable pub seenN : (w d last j : ℕ) → Seen
+  unfoldable pub seenN : (w d last j : ℕ) → WindowResult
   seenN w d last zero = record { shift = last; hit = topBit (m .top) (stepAt 0 d w) }
   seenN w d last (suc j) =
       cond (eqb (stepAt 0 d (w + suc j)) 0) (record { shift = last; hit = false })
@@ -50,34 +50,30 @@ module _ (t : List ℕ) (m : Masks) (text : List ℕ) where
 
 -- ---- what the functions ask and give
 
-pub record Tables (t : List ℕ) (m : Masks) : Type 0 where
-  pub long : length t ≡ 256
-  pub top : m .top < 64
-
 pub record Window (size w len : ℕ) : Type 0 where
   pub some : 1 ≤ size
   pub fits : w + size ≤ len
 
 -- for each byte, the states after it from all states: what a window's last byte leaves
-pub record FirstIs (t : List ℕ) (m : Masks) (first : List ℕ) : Type 0 where
+pub record LastByteStates (t : List ℕ) (m : Masks) (first : List ℕ) : Type 0 where
   pub long : length first ≡ 256
   pub is : (c : ℕ) → c < 256 → getD first c 0 ≡ stepN m 0 every (getD t c 0)
 
 -- Within window w the bytes j .. 1 are still to be read, and then byte 0: what they make of d and `last` is what the whole window makes of all states.
-pub record Looking (t : List ℕ) (m : Masks) (size : ℕ) (text : List ℕ) (w d last j : ℕ) : Type 0 where
+pub record Unread (t : List ℕ) (m : Masks) (size : ℕ) (text : List ℕ) (w d last j : ℕ) : Type 0 where
   pub below : j < size
   pub moves : 1 ≤ last
   pub short : last ≤ size
   pub rest : seenN t m text w d last j ≡ seenN t m text w every size (size - 1)
 
-pub record SeenIs (t : List ℕ) (m : Masks) (size : ℕ) (text : List ℕ) (w : ℕ) (x : Seen) : Type 0 where
+pub record WindowIs (t : List ℕ) (m : Masks) (size : ℕ) (text : List ℕ) (w : ℕ) (x : WindowResult) : Type 0 where
   pub is : x ≡ seenN t m text w every size (size - 1)
   pub moves : 1 ≤ x .shift
   pub short : x .shift ≤ size
 
 -- where it says yes, the window holds nothing, and is shifted by its size
-pub record QuietIs (t : List ℕ) (m : Masks) (size : ℕ) (text : List ℕ) (w : ℕ) (r : Bool) : Type 0 where
-  pub says : r ≡ true → SeenIs t m size text w (record { shift = size; hit = false })
+pub record SurelyMisses (t : List ℕ) (m : Masks) (size : ℕ) (text : List ℕ) (w : ℕ) (r : Bool) : Type 0 where
+  pub says : r ≡ true → WindowIs t m size text w (record { shift = size; hit = false })
 
 abbrev pub Within : (s stop : ℕ) → End → Type 0
 Within s stop (At e) = (s < e) × (e ≤ stop)

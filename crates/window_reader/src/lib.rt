@@ -4,11 +4,12 @@
 ghost use mathlib.Core.Path.{_≡_};
 ghost use Prim.Native.Nat.{_+_, _≤_, _<_};
 ghost use lib.ListN.{length};
-ghost use Rattle.window_reader.specs.Reading.{Tables, Window, FirstIs, Looking, SeenIs, QuietIs, EndIs, CountIs, WriteFine, WroteIs, RestFine, WrittenIs};
+ghost use Rattle.shift_and_step.specs.Stepping.{TableFits};
+ghost use Rattle.window_reader.specs.Reading.{Window, LastByteStates, Unread, WindowIs, SurelyMisses, EndIs, CountIs, WriteFine, WroteIs, RestFine, WrittenIs};
 use shift_and_step::Masks;
 
 // What a window says: the published shift, and whether its bytes begin a string that the rule admits.
-pub struct Seen {
+pub struct WindowResult {
     pub shift: usize,
     pub hit: bool,
 }
@@ -22,10 +23,10 @@ pub enum End {
 }
 
 // The states after a window's last byte, for each byte, with the reversed table and masks.
-pub fn first_steps(reversed: &[u64], m: Masks, first: &mut [u64])
-    requires { ⌜ Tables (now reversed) m ⌝ }
+pub fn last_byte_states(reversed: &[u64], m: Masks, first: &mut [u64])
+    requires { ⌜ TableFits (now reversed) m ⌝ }
     requires { ⌜ length (now first) ≡ 256 ⌝ }
-    ensures { λ r. ⌜ FirstIs (now (reversed .entry)) m (now (first .exit)) ⌝ }
+    ensures { λ r. ⌜ LastByteStates (now (reversed .entry)) m (now (first .exit)) ⌝ }
 {
     let mut c = 0;
     while c < 256 {
@@ -45,34 +46,34 @@ fn read_back(
     d: u64,
     last: usize,
     j: usize,
-) -> Seen
-    requires { ⌜ Tables (now reversed) m ⌝ }
+) -> WindowResult
+    requires { ⌜ TableFits (now reversed) m ⌝ }
     requires { ⌜ Window size w (length (now text)) ⌝ }
-    requires { ⌜ Looking (now reversed) m size (now text) w d last j ⌝ }
-    ensures { λ x. ⌜ SeenIs (now (reversed .entry)) m size (now (text .entry)) w x ⌝ }
+    requires { ⌜ Unread (now reversed) m size (now text) w d last j ⌝ }
+    ensures { λ x. ⌜ WindowIs (now (reversed .entry)) m size (now (text .entry)) w x ⌝ }
 {
     let mut d = d;
     let mut last = last;
     let mut j = j;
     while 0 < j {
-        let c = byte_search::index(text[w + j]);
+        let c = byte_search::byte_index(text[w + j]);
         d = shift_and_step::step(d, reversed[c], 0, m);
         if d == 0 {
-            return Seen {
+            return WindowResult {
                 shift: last,
                 hit: false,
             };
         }
         let at = j;
         j -= 1;
-        if shift_and::reports(d, m.top) {
+        if shift_and::accepts(d, m.top) {
             last = at;
         }
     }
-    let c = byte_search::index(text[w]);
+    let c = byte_search::byte_index(text[w]);
     d = shift_and_step::step(d, reversed[c], 0, m);
-    let hit = shift_and::reports(d, m.top);
-    Seen {
+    let hit = shift_and::accepts(d, m.top);
+    WindowResult {
         shift: last,
         hit: hit,
     }
@@ -87,24 +88,24 @@ pub fn window_shift(
     size: usize,
     text: &[u8],
     w: usize,
-) -> Seen
-    requires { ⌜ Tables (now reversed) m ⌝ }
+) -> WindowResult
+    requires { ⌜ TableFits (now reversed) m ⌝ }
     requires { ⌜ Window size w (length (now text)) ⌝ }
-    requires { ⌜ FirstIs (now reversed) m (now first) ⌝ }
-    ensures { λ x. ⌜ SeenIs (now (reversed .entry)) m size (now (text .entry)) w x ⌝ }
+    requires { ⌜ LastByteStates (now reversed) m (now first) ⌝ }
+    ensures { λ x. ⌜ WindowIs (now (reversed .entry)) m size (now (text .entry)) w x ⌝ }
 {
     let j = size - 1;
-    let c = byte_search::index(text[w + j]);
+    let c = byte_search::byte_index(text[w + j]);
     let d = first[c];
-    let begins = shift_and::reports(d, m.top);
+    let begins = shift_and::accepts(d, m.top);
     if j == 0 {
-        return Seen {
+        return WindowResult {
             shift: size,
             hit: begins,
         };
     }
     if d == 0 {
-        return Seen {
+        return WindowResult {
             shift: size,
             hit: false,
         };
@@ -118,7 +119,7 @@ pub fn window_shift(
 
 // Whether the last two bytes of window w tell that it holds nothing and is shifted by its size: mostly
 // they do, and one test of both goes wrong less often than one of each.
-pub fn is_quiet(
+pub fn surely_misses(
     reversed: &[u64],
     first: &[u64],
     m: Masks,
@@ -126,21 +127,21 @@ pub fn is_quiet(
     text: &[u8],
     w: usize,
 ) -> bool
-    requires { ⌜ Tables (now reversed) m ⌝ }
+    requires { ⌜ TableFits (now reversed) m ⌝ }
     requires { ⌜ Window size w (length (now text)) ⌝ }
-    requires { ⌜ FirstIs (now reversed) m (now first) ⌝ }
+    requires { ⌜ LastByteStates (now reversed) m (now first) ⌝ }
     requires { ⌜ 2 ≤ size ⌝ }
-    ensures { λ r. ⌜ QuietIs (now (reversed .entry)) m size (now (text .entry)) w r ⌝ }
+    ensures { λ r. ⌜ SurelyMisses (now (reversed .entry)) m size (now (text .entry)) w r ⌝ }
 {
     let j = size - 1;
     let i = j - 1;
-    let c = byte_search::index(text[w + j]);
-    let b = byte_search::index(text[w + i]);
+    let c = byte_search::byte_index(text[w + j]);
+    let b = byte_search::byte_index(text[w + i]);
     let d = first[c];
     let x = shift_and_step::step(d, reversed[b], 0, m);
-    let begins = shift_and::reports(d, m.top);
+    let begins = shift_and::accepts(d, m.top);
     if i == 0 {
-        let hit = shift_and::reports(x, m.top);
+        let hit = shift_and::accepts(x, m.top);
         return !(begins | hit);
     }
     let alive = x != 0;
@@ -149,21 +150,21 @@ pub fn is_quiet(
 
 // Reads forward from the start s, with the forward table and masks, up to the place `stop`.
 pub fn verify(forward: &[u64], m: Masks, text: &[u8], s: usize, stop: usize) -> End
-    requires { ⌜ Tables (now forward) m ⌝ }
+    requires { ⌜ TableFits (now forward) m ⌝ }
     requires { ⌜ s ≤ stop ⌝ }
     requires { ⌜ stop ≤ length (now text) ⌝ }
     ensures { λ x. ⌜ EndIs (now (forward .entry)) m (now (text .entry)) s stop x ⌝ }
 {
-    let mut d = shift_and::opening(m.optional);
+    let mut d = shift_and::start_state(m.optional);
     let mut e = s;
     while e < stop {
-        let c = byte_search::index(text[e]);
+        let c = byte_search::byte_index(text[e]);
         d = shift_and_step::step(d, forward[c], 0, m);
         e += 1;
         if d == 0 {
             return End::Dead(e);
         }
-        if shift_and::reports(d, m.top) {
+        if shift_and::accepts(d, m.top) {
             return End::At(e);
         }
     }
@@ -173,18 +174,18 @@ pub fn verify(forward: &[u64], m: Masks, text: &[u8], s: usize, stop: usize) -> 
 // Reads the text backwards as far as `from`, with the reversed table and masks and the beginning always
 // set: how many starts there are from there on.
 pub fn count_back(reversed: &[u64], m: Masks, text: &[u8], from: usize) -> usize
-    requires { ⌜ Tables (now reversed) m ⌝ }
+    requires { ⌜ TableFits (now reversed) m ⌝ }
     requires { ⌜ from ≤ length (now text) ⌝ }
     ensures { λ k. ⌜ CountIs (now (reversed .entry)) m (now (text .entry)) from k ⌝ }
 {
-    let mut d = shift_and::opening(m.optional);
+    let mut d = shift_and::start_state(m.optional);
     let mut k = 0;
     let mut j = text.len();
     while from < j {
         j -= 1;
-        let c = byte_search::index(text[j]);
+        let c = byte_search::byte_index(text[j]);
         d = shift_and_step::step(d, reversed[c], 1, m);
-        if shift_and::reports(d, m.top) {
+        if shift_and::accepts(d, m.top) {
             k += 1;
         }
     }
@@ -202,18 +203,18 @@ fn write_back(
     first: usize,
     k: usize,
 )
-    requires { ⌜ Tables (now reversed) m ⌝ }
+    requires { ⌜ TableFits (now reversed) m ⌝ }
     requires { ⌜ WriteFine (now reversed) m (now text) from (length (now starts)) first k ⌝ }
     ensures { λ u. ⌜ WroteIs (now (reversed .entry)) m (now (text .entry)) from (now (starts .entry)) first (now (starts .exit)) ⌝ }
 {
-    let mut d = shift_and::opening(m.optional);
+    let mut d = shift_and::start_state(m.optional);
     let mut p = first + k;
     let mut j = text.len();
     while first < p {
         j -= 1;
-        let c = byte_search::index(text[j]);
+        let c = byte_search::byte_index(text[j]);
         d = shift_and_step::step(d, reversed[c], 1, m);
-        if shift_and::reports(d, m.top) {
+        if shift_and::accepts(d, m.top) {
             p -= 1;
             starts[p] = j as u32;
         }
@@ -230,7 +231,7 @@ pub fn write_rest(
     starts: &mut [u32],
     first: usize,
 ) -> usize
-    requires { ⌜ Tables (now reversed) m ⌝ }
+    requires { ⌜ TableFits (now reversed) m ⌝ }
     requires { ⌜ RestFine (length (now text)) from (length (now starts)) first ⌝ }
     ensures { λ k. ⌜ WrittenIs (now (reversed .entry)) m (now (text .entry)) from (now (starts .entry)) first k (now (starts .exit)) ⌝ }
 {

@@ -13,14 +13,14 @@ use borrow.Author.Tests.{not-false}
 use Rattle.model.specs.Occurrence.{Position, shortest, consIf, isStart, starts}
 use Rattle.model.specs.WindowSearch.{windowAt, shift, windowsFrom, windows}
 use Rattle.model.proofs.Windows.{windows-next, windows-stop}
-use Rattle.window_reader.specs.declared.Seen.{Seen}
-use Rattle.window_reader.specs.Reading.{SeenIs, QuietIs, startsBack, RestFine, WrittenIs}
+use Rattle.window_reader.specs.declared.WindowResult.{WindowResult}
+use Rattle.window_reader.specs.Reading.{WindowIs, SurelyMisses, startsBack, RestFine, WrittenIs}
 use Rattle.window_reader.proofs.Reversed.{back-means}
 use Rattle.window_search.specs.declared.Rule.{Rule}
 use Rattle.window_search.specs.declared.Part.{Part}
 use Rattle.window_search.specs.declared.Tried.{Tried}
 use Rattle.window_search.specs.declared.Tried.the-variants.{Start, Empty}
-use Rattle.window_search.specs.Searching.{RuleFits, Mirrors, RuleOf, TryFits, TryMeans, TriedIs, UnknownIs, TriesIs, restStarts, SkimmedIs, Rest, PartIs, SearchFits, SearchedIs}
+use Rattle.window_search.specs.Searching.{RuleFits, Mirrors, RuleOf, TryFits, TryMeans, TriedIs, LastByteAbsent, TriesIs, restStarts, SkippedIs, Rest, PartIs, SearchFits, SearchedIs}
 use Rattle.window_search.proofs.Rests.{rest-all, rest-back, rest-move}
 use Rattle.window_search.proofs.Tries.{seen-shift, seen-missed, unknown-shift, unknown-missed}
 
@@ -51,8 +51,8 @@ module _ (reversed : List ℕ) (rule : Rule) (text : List ℕ) (w₀ : ℕ) wher
   try-begun h = record { within = h; few = omega arith; rest = λ ps of. omega arith }
 
   module _ {w k : ℕ} (g : Trying reversed rule text w₀ w k) where
-    pub try-turn : (s : Seen) → w + rule .shortest ≤ length text
-        → SeenIs reversed (rule .reversed) (rule .shortest) text w s
+    pub try-turn : (s : WindowResult) → w + rule .shortest ≤ length text
+        → WindowIs reversed (rule .reversed) (rule .shortest) text w s
         → Trying reversed rule text w₀ (w + s .shift) (k + 1)
     try-turn s h i = record {
       within = omega (arith, i .short);
@@ -63,7 +63,7 @@ module _ (reversed : List ℕ) (rule : Rule) (text : List ℕ) (w₀ : ℕ) wher
     }
 
     -- the short way: the last byte stands at no position
-    pub try-quick : {r : Bool} → w + rule .shortest ≤ length text → 1 ≤ rule .shortest → UnknownIs reversed (rule .shortest) text w r → r ≡ true
+    pub try-quick : {r : Bool} → w + rule .shortest ≤ length text → 1 ≤ rule .shortest → LastByteAbsent reversed (rule .shortest) text w r → r ≡ true
         → Trying reversed rule text w₀ (w + rule .shortest) (k + 1)
     try-quick h m u e = record {
       within = h;
@@ -82,15 +82,15 @@ module _ (reversed : List ℕ) (rule : Rule) (text : List ℕ) (w₀ : ℕ) wher
 -- ---- windows passed over
 
 module _ (reversed : List ℕ) (rule : Rule) (text : List ℕ) (w₀ : ℕ) where
-  pub skim-begun : w₀ ≤ length text → SkimmedIs reversed rule text w₀ w₀ 0
-  skim-begun h = record { within = h; few = omega arith; tries = λ ps of. omega arith; none = λ ps of. refl }
+  pub skip-begun : w₀ ≤ length text → SkippedIs reversed rule text w₀ w₀ 0
+  skip-begun h = record { within = h; few = omega arith; tries = λ ps of. omega arith; none = λ ps of. refl }
 
-  module _ {w k : ℕ} (g : SkimmedIs reversed rule text w₀ w k) where
+  module _ {w k : ℕ} (g : SkippedIs reversed rule text w₀ w k) where
     -- one more that is shifted by its size, where no occurrence starts
-    skim-on : w + rule .shortest ≤ length text → 1 ≤ rule .shortest
+    skip-on : w + rule .shortest ≤ length text → 1 ≤ rule .shortest
         → ((ps : List Position) → Mirrors ps reversed rule → (rule .shortest ≡ shift ps (windowAt ps text w)) × (isStart ps text w ≡ false))
-        → SkimmedIs reversed rule text w₀ (w + rule .shortest) (k + 1)
-    skim-on h some f = record {
+        → SkippedIs reversed rule text w₀ (w + rule .shortest) (k + 1)
+    skip-on h some f = record {
       within = h;
       few = omega (arith, g .few);
       tries = λ ps of. let n = next-window ps reversed rule text of w h (f ps of .0) in omega (arith, g .tries ps of);
@@ -98,25 +98,25 @@ module _ (reversed : List ℕ) (rule : Rule) (text : List ℕ) (w₀ : ℕ) wher
     }
 
     -- its last byte stands at no position
-    pub skim-unknown : {r : Bool} → rule .shortest ≤ length text - w → 1 ≤ rule .shortest → UnknownIs reversed (rule .shortest) text w r → not r ≡ false
-        → SkimmedIs reversed rule text w₀ (w + rule .shortest) (k + 1)
-    skim-unknown {r} left some u n =
+    pub skip-unknown : {r : Bool} → rule .shortest ≤ length text - w → 1 ≤ rule .shortest → LastByteAbsent reversed (rule .shortest) text w r → not r ≡ false
+        → SkippedIs reversed rule text w₀ (w + rule .shortest) (k + 1)
+    skip-unknown {r} left some u n =
         let h : w + rule .shortest ≤ length text = omega (arith, g .within) in
         let z = u .says (not-false r n) in
-        skim-on h some (λ ps of. (unknown-shift ps reversed rule text w of h z, unknown-missed ps reversed rule text w of h z))
+        skip-on h some (λ ps of. (unknown-shift ps reversed rule text w of h z, unknown-missed ps reversed rule text w of h z))
 
     -- its last two bytes tell it
-    pub skim-quiet : {r : Bool} → rule .shortest ≤ length text - w → 1 ≤ rule .shortest → QuietIs reversed (rule .reversed) (rule .shortest) text w r → not r ≡ false
-        → SkimmedIs reversed rule text w₀ (w + rule .shortest) (k + 1)
-    skim-quiet {r} left some q n =
+    pub skip-quiet : {r : Bool} → rule .shortest ≤ length text - w → 1 ≤ rule .shortest → SurelyMisses reversed (rule .reversed) (rule .shortest) text w r → not r ≡ false
+        → SkippedIs reversed rule text w₀ (w + rule .shortest) (k + 1)
+    skip-quiet {r} left some q n =
         let h : w + rule .shortest ≤ length text = omega (arith, g .within) in
-        let s : Seen = record { shift = rule .shortest; hit = false } in
+        let s : WindowResult = record { shift = rule .shortest; hit = false } in
         let i = q .says (not-false r n) in
-        skim-on h some (λ ps of. (seen-shift ps reversed rule text w of h s i, seen-missed ps reversed rule text w of h s i refl))
+        skip-on h some (λ ps of. (seen-shift ps reversed rule text w of h s i, seen-missed ps reversed rule text w of h s i refl))
 
 -- ---- the windows with their verification
 
-pub record Going (forward reversed : List ℕ) (rule : Rule) (text l₀ l : List ℕ) (w count tried spent : ℕ) : Type 0 where
+pub record SearchProgress (forward reversed : List ℕ) (rule : Rule) (text l₀ l : List ℕ) (w count tried spent : ℕ) : Type 0 where
   pub within : w ≤ length text
   pub few : count ≤ w
   pub tries : tried ≤ w
@@ -148,7 +148,7 @@ module _ {forward reversed : List ℕ} {rule : Rule} {text : List ℕ} {w : ℕ}
   empty-less q m h = let b = empty-bounds q .0 in omega arith
 
 module _ (forward reversed : List ℕ) (rule : Rule) (text l₀ : List ℕ) where
-  pub begun : Going forward reversed rule text l₀ l₀ 0 0 0 0
+  pub begun : SearchProgress forward reversed rule text l₀ l₀ 0 0 0 0
   begun = record {
     within = omega arith;
     few = omega arith;
@@ -158,10 +158,10 @@ module _ (forward reversed : List ℕ) (rule : Rule) (text l₀ : List ℕ) wher
     rest = λ ps of. record { starts-left = rw (rest-all ps text) (zero-add _); windows-left = zero-add _; list = rw (rest-all ps text) };
   }
 
-  module _ {l : List ℕ} {w count tried spent : ℕ} (g : Going forward reversed rule text l₀ l w count tried spent) where
+  module _ {l : List ℕ} {w count tried spent : ℕ} (g : SearchProgress forward reversed rule text l₀ l w count tried spent) where
     module _ {x : Tried} (h : w + rule .shortest ≤ length text) (i : TriedIs forward reversed rule text w x) where
       -- an occurrence starts at w
-      pub started : {j s : ℕ} → x ≡ Start j s → Going forward reversed rule text l₀ (set l count w) (w + j) (count + 1) (tried + 1) s
+      pub started : {j s : ℕ} → x ≡ Start j s → SearchProgress forward reversed rule text l₀ (set l count w) (w + j) (count + 1) (tried + 1) s
       started {j} {s} q =
           let b = start-bounds i q in
           let b0 = b .0 in
@@ -186,7 +186,7 @@ module _ (forward reversed : List ℕ) (rule : Rule) (text l₀ : List ℕ) wher
           }
 
       -- none does
-      pub passed : {j s : ℕ} → x ≡ Empty j s → Going forward reversed rule text l₀ l (w + j) count (tried + 1) s
+      pub passed : {j s : ℕ} → x ≡ Empty j s → SearchProgress forward reversed rule text l₀ l (w + j) count (tried + 1) s
       passed {j} {s} q =
           let b = empty-bounds i q in
           let b0 = b .0 in
@@ -211,7 +211,7 @@ module _ (forward reversed : List ℕ) (rule : Rule) (text l₀ : List ℕ) wher
           }
 
     -- windows passed over
-    pub skimmed : {w′ k : ℕ} → SkimmedIs reversed rule text w w′ k → Going forward reversed rule text l₀ l w′ count (tried + k) spent
+    pub skimmed : {w′ k : ℕ} → SkippedIs reversed rule text w w′ k → SearchProgress forward reversed rule text l₀ l w′ count (tried + k) spent
     skimmed {w′} {k} s = record {
       within = s .within;
       few = omega (arith, g .few, s .few);

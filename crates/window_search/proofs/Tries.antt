@@ -15,16 +15,16 @@ use Rattle.model.proofs.Decided.{start-decided}
 use Rattle.model.proofs.Windows.{occurs-length, starts-are-verified}
 use Rattle.shift_and.specs.Masks.{Encodes}
 use Rattle.shift_and_step.specs.declared.Masks.{Masks}
-use Rattle.window_reader.specs.declared.Seen.{Seen}
+use Rattle.window_reader.specs.declared.WindowResult.{WindowResult}
 use Rattle.window_reader.specs.declared.End.{End}
 use Rattle.window_reader.specs.declared.End.the-variants.{At, Dead, Open}
-use Rattle.window_reader.specs.Reading.{Within, SeenIs, EndIs}
+use Rattle.window_reader.specs.Reading.{Within, WindowIs, EndIs}
 use Rattle.window_reader.proofs.Shifts.{seen-means, unknown-means}
 use Rattle.window_reader.proofs.Ends.{Means, opened-means}
 use Rattle.window_search.specs.declared.Rule.{Rule}
 use Rattle.window_search.specs.declared.Tried.{Tried}
 use Rattle.window_search.specs.declared.Tried.the-variants.{Start, Empty, Spent}
-use Rattle.window_search.specs.Searching.{Mirrors, Spends, Allowed, CheckFits, CheckMeans, CheckedIs, TryFits, TryMeans, TriedIs, UnknownIs}
+use Rattle.window_search.specs.Searching.{Mirrors, Spends, Allowed, VerifyFits, VerifyMeans, VerifiedIs, TryFits, TryMeans, TriedIs, LastByteAbsent}
 
 -- ---- verification
 
@@ -71,20 +71,20 @@ module _ (t : List ℕ) (m : Masks) (text : List ℕ) (w spent j stop : ℕ) (al
   meaning : (ps : List Position) → Encodes 64 ps (λ c. getD t c 0) (m .repeats) (m .optional) → m .top ≡ length ps → (y : End) → x ≡ y → Means ps text w w (stop - w) y
   meaning ps of np y q = subst (Means ps text w w (stop - w)) q (end-means i ps of np (al .from) (al .inside))
 
-  pub checked-at : {e : ℕ} → x ≡ At e → CheckedIs t m text w j (Start j (spent + (e - w)))
+  pub checked-at : {e : ℕ} → x ≡ At e → VerifiedIs t m text w j (Start j (spent + (e - w)))
   checked-at {e} q = record {
     fits = (refl, at-sum i al q);
     means = λ ps of np some. T-true (isStart ps text w) (start-decided ps text w .1 (e, meaning ps of np (At e) q .1));
   }
 
-  pub checked-dead : {e : ℕ} → x ≡ Dead e → CheckedIs t m text w j (Empty j (spent + (e - w)))
+  pub checked-dead : {e : ℕ} → x ≡ Dead e → VerifiedIs t m text w j (Empty j (spent + (e - w)))
   checked-dead {e} q = record {
     fits = (refl, dead-sum i al q);
     means = λ ps of np some. not-start ps text w some (meaning ps of np (Dead e) q);
   }
 
   -- all the bytes have been read
-  pub checked-over : x ≡ Open → length text ≤ stop → CheckedIs t m text w j (Empty j (spent + (stop - w)))
+  pub checked-over : x ≡ Open → length text ≤ stop → VerifiedIs t m text w j (Empty j (spent + (stop - w)))
   checked-over q h = record {
     fits = (refl, omega (arith, al .budget));
     means = λ ps of np some.
@@ -94,7 +94,7 @@ module _ (t : List ℕ) (m : Masks) (text : List ℕ) (w spent j stop : ℕ) (al
 -- ---- the window
 
 module _ (ps : List Position) (reversed : List ℕ) (rule : Rule) (text : List ℕ) (w : ℕ) (of : Mirrors ps reversed rule)
-    (fits : w + rule .shortest ≤ length text) (s : Seen) (i : SeenIs reversed (rule .reversed) (rule .shortest) text w s) where
+    (fits : w + rule .shortest ≤ length text) (s : WindowResult) (i : WindowIs reversed (rule .reversed) (rule .shortest) text w s) where
   seen-is : s ≡ record { shift = shift ps (windowAt ps text w); hit = isBeginning ps (windowAt ps text w) }
   seen-is =
       let m : rule .shortest ≡ shortest ps = of .size in
@@ -112,33 +112,33 @@ module _ (ps : List Position) (reversed : List ℕ) (rule : Rule) (text : List �
       T-false (isStart ps text w) (λ t.
       subst (λ (b : Bool). T b) (sym seen-hit ∙ q) (starts-are-verified ps (of .inhabited) (of .some) text w (start-decided ps text w .0 t)))
 
-module _ (forward reversed : List ℕ) (rule : Rule) (text : List ℕ) (w : ℕ) (fits : w + rule .shortest ≤ length text) (s : Seen)
-    (i : SeenIs reversed (rule .reversed) (rule .shortest) text w s) where
+module _ (forward reversed : List ℕ) (rule : Rule) (text : List ℕ) (w : ℕ) (fits : w + rule .shortest ≤ length text) (s : WindowResult)
+    (i : WindowIs reversed (rule .reversed) (rule .shortest) text w s) where
   pub missed : {spent : ℕ} → s .hit ≡ false → Spends (length text) w spent → TriedIs forward reversed rule text w (Empty (s .shift) spent)
   missed q b = record {
     fits = (i .moves, i .short, b .budget);
     means = λ ps of. (seen-shift ps reversed rule text w (of .mirrors) fits s i, seen-missed ps reversed rule text w (of .mirrors) fits s i q);
   }
 
-  pub hit : {x : Tried} → CheckedIs forward (rule .forward) text w (s .shift) x → TriedIs forward reversed rule text w x
+  pub hit : {x : Tried} → VerifiedIs forward (rule .forward) text w (s .shift) x → TriedIs forward reversed rule text w x
   hit {x} k = record {
     fits = bounds x (k .fits);
     means = λ ps of. both ps x (seen-shift ps reversed rule text w (of .mirrors) fits s i) (k .fits) (k .means ps (of .onward) (of .top) (of .mirrors .some));
   }
     where
-      bounds : (x : Tried) → CheckFits w (s .shift) x → TryFits (rule .shortest) w x
+      bounds : (x : Tried) → VerifyFits w (s .shift) x → TryFits (rule .shortest) w x
       bounds (Start j n) f = let e = f .0 in let b = f .1 in (omega (arith, i .moves), omega (arith, i .short), b)
       bounds (Empty j n) f = let e = f .0 in let b = f .1 in (omega (arith, i .moves), omega (arith, i .short), b)
       bounds Spent f = tt
 
-      both : (ps : List Position) (x : Tried) → s .shift ≡ shift ps (windowAt ps text w) → CheckFits w (s .shift) x → CheckMeans ps text w x → TryMeans ps text w x
+      both : (ps : List Position) (x : Tried) → s .shift ≡ shift ps (windowAt ps text w) → VerifyFits w (s .shift) x → VerifyMeans ps text w x → TryMeans ps text w x
       both ps (Start j n) e f m = (f .0 ∙ e, m)
       both ps (Empty j n) e f m = (f .0 ∙ e, m)
       both ps Spent e f m = tt
 
 -- ---- `is_unknown`
 
-pub unknown-is : (reversed : List ℕ) (size : ℕ) (text : List ℕ) (w b : ℕ) → b ≡ getD text (w + size - 1) 0 → UnknownIs reversed size text w (eqb (getD reversed b 0) 0)
+pub unknown-is : (reversed : List ℕ) (size : ℕ) (text : List ℕ) (w b : ℕ) → b ≡ getD text (w + size - 1) 0 → LastByteAbsent reversed size text w (eqb (getD reversed b 0) 0)
 unknown-is reversed size text w b e = record { says = λ t. rw e at (eqb-true (getD reversed b 0) 0 t) }
 
 -- the last byte stands at no position

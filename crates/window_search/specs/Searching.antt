@@ -11,7 +11,8 @@ use Rattle.model.specs.WindowSearch.{Inhabited, windowAt, shift, windowsFrom, w
 use Rattle.model.specs.WindowSearch as WindowSearch
 use Rattle.shift_and.specs.Masks.{Encodes}
 use Rattle.shift_and_step.specs.declared.Masks.{Masks}
-use Rattle.window_reader.specs.Reading.{Tables, FirstIs}
+use Rattle.shift_and_step.specs.Stepping.{TableFits}
+use Rattle.window_reader.specs.Reading.{LastByteStates}
 use Rattle.window_search.specs.declared.Rule.{Rule}
 use Rattle.window_search.specs.declared.Tried.{Tried}
 use Rattle.window_search.specs.declared.Tried.the-variants.{Start, Empty, Spent}
@@ -22,13 +23,13 @@ use Rattle.window_search.specs.declared.Span.{Span}
 -- ---- a prepared rule
 
 pub record BackFits (reversed first : List ℕ) (rule : Rule) : Type 0 where
-  pub back : Tables reversed (rule .reversed)
-  pub firsts : FirstIs reversed (rule .reversed) first
+  pub back : TableFits reversed (rule .reversed)
+  pub firsts : LastByteStates reversed (rule .reversed) first
   pub some : 1 ≤ rule .shortest
   pub small : rule .shortest < 2 ^ 32
 
 pub record RuleFits (forward reversed first : List ℕ) (rule : Rule) : Type 0 where
-  pub on : Tables forward (rule .forward)
+  pub on : TableFits forward (rule .forward)
   pub backs : BackFits reversed first rule
 
 -- Table and masks are those of the positions, for each direction.
@@ -58,19 +59,19 @@ pub record Allowed (len w spent r : ℕ) : Type 0 where
   pub budget : r + spent ≤ 3 * w + 4096
 
 -- verification alone: the shift j is handed on
-abbrev pub CheckFits : (w j : ℕ) → Tried → Type 0
-CheckFits w j (Start i s) = (i ≡ j) × (s ≤ 2 * w + 4096)
-CheckFits w j (Empty i s) = (i ≡ j) × (s ≤ 2 * w + 4096)
-CheckFits w j Spent = Unit {0}
+abbrev pub VerifyFits : (w j : ℕ) → Tried → Type 0
+VerifyFits w j (Start i s) = (i ≡ j) × (s ≤ 2 * w + 4096)
+VerifyFits w j (Empty i s) = (i ≡ j) × (s ≤ 2 * w + 4096)
+VerifyFits w j Spent = Unit {0}
 
-abbrev pub CheckMeans : List Position → List ℕ → (w : ℕ) → Tried → Type 0
-CheckMeans ps text w (Start i s) = isStart ps text w ≡ true
-CheckMeans ps text w (Empty i s) = isStart ps text w ≡ false
-CheckMeans ps text w Spent = Unit {0}
+abbrev pub VerifyMeans : List Position → List ℕ → (w : ℕ) → Tried → Type 0
+VerifyMeans ps text w (Start i s) = isStart ps text w ≡ true
+VerifyMeans ps text w (Empty i s) = isStart ps text w ≡ false
+VerifyMeans ps text w Spent = Unit {0}
 
-pub record CheckedIs (forward : List ℕ) (m : Masks) (text : List ℕ) (w j : ℕ) (x : Tried) : Type 0 where
-  pub fits : CheckFits w j x
-  pub means : (ps : List Position) → Encodes 64 ps (λ c. getD forward c 0) (m .repeats) (m .optional) → m .top ≡ length ps → 1 ≤ shortest ps → CheckMeans ps text w x
+pub record VerifiedIs (forward : List ℕ) (m : Masks) (text : List ℕ) (w j : ℕ) (x : Tried) : Type 0 where
+  pub fits : VerifyFits w j x
+  pub means : (ps : List Position) → Encodes 64 ps (λ c. getD forward c 0) (m .repeats) (m .optional) → m .top ≡ length ps → 1 ≤ shortest ps → VerifyMeans ps text w x
 
 abbrev pub TryFits : (size w : ℕ) → Tried → Type 0
 TryFits size w (Start j s) = (1 ≤ j) × (j ≤ size) × (s ≤ 2 * w + 4096)
@@ -87,7 +88,7 @@ pub record TriedIs (forward reversed : List ℕ) (rule : Rule) (text : List ℕ)
   pub means : (ps : List Position) → RuleOf ps forward reversed rule → TryMeans ps text w x
 
 -- where it says yes, the table knows no position of the window's last byte
-pub record UnknownIs (reversed : List ℕ) (size : ℕ) (text : List ℕ) (w : ℕ) (r : Bool) : Type 0 where
+pub record LastByteAbsent (reversed : List ℕ) (size : ℕ) (text : List ℕ) (w : ℕ) (r : Bool) : Type 0 where
   pub says : r ≡ true → getD reversed (getD text (w + size - 1) 0) 0 ≡ 0
 
 -- ---- the windows from w on
@@ -101,7 +102,7 @@ abbrev pub restStarts : List Position → List ℕ → (w : ℕ) → List ℕ
 restStarts ps text w = allFrom (isStart ps text) w (suc (length text) - w)
 
 -- k windows from w₀ on, up to w, are passed over: no occurrence starts from there up to w.
-pub record SkimmedIs (reversed : List ℕ) (rule : Rule) (text : List ℕ) (w₀ w k : ℕ) : Type 0 where
+pub record SkippedIs (reversed : List ℕ) (rule : Rule) (text : List ℕ) (w₀ w k : ℕ) : Type 0 where
   pub within : w ≤ length text
   pub few : k + w₀ ≤ w
   pub tries : (ps : List Position) → Mirrors ps reversed rule

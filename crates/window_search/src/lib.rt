@@ -4,8 +4,9 @@
 ghost use mathlib.Core.Path.{_≡_};
 ghost use Prim.Native.Nat.{_+_, _*_, _≤_, _<_, _^_};
 ghost use lib.ListN.{length};
-ghost use Rattle.window_reader.specs.Reading.{Tables, Window};
-ghost use Rattle.window_search.specs.Searching.{BackFits, RuleFits, Spends, Allowed, CheckedIs, TriedIs, UnknownIs, TriesIs, SkimmedIs, PartIs, SearchFits, SearchedIs, SpanIs};
+ghost use Rattle.shift_and_step.specs.Stepping.{TableFits};
+ghost use Rattle.window_reader.specs.Reading.{Window};
+ghost use Rattle.window_search.specs.Searching.{BackFits, RuleFits, Spends, Allowed, VerifiedIs, TriedIs, LastByteAbsent, TriesIs, SkippedIs, PartIs, SearchFits, SearchedIs, SpanIs};
 use shift_and_step::Masks;
 use window_reader::End;
 
@@ -57,10 +58,17 @@ fn allowed(len: usize, w: usize, spent: usize) -> usize
 }
 
 // Verifies from w, as far as the budget goes. The shift is handed on.
-fn checked(forward: &[u64], m: Masks, text: &[u8], w: usize, spent: usize, shift: usize) -> Tried
-    requires { ⌜ Tables (now forward) m ⌝ }
+fn verify_within_budget(
+    forward: &[u64],
+    m: Masks,
+    text: &[u8],
+    w: usize,
+    spent: usize,
+    shift: usize,
+) -> Tried
+    requires { ⌜ TableFits (now forward) m ⌝ }
     requires { ⌜ Spends (length (now text)) w spent ⌝ }
-    ensures { λ x. ⌜ CheckedIs (now (forward .entry)) m (now (text .entry)) w shift x ⌝ }
+    ensures { λ x. ⌜ VerifiedIs (now (forward .entry)) m (now (text .entry)) w shift x ⌝ }
 {
     let stop = allowed(text.len(), w, spent);
     let end = window_reader::verify(forward, m, text, w, stop);
@@ -102,18 +110,18 @@ fn try_window(
     let seen = window_reader::window_shift(reversed, first, back, rule.shortest, text, w);
     if seen.hit {
         let on = rule.forward;
-        return checked(forward, on, text, w, spent, seen.shift);
+        return verify_within_budget(forward, on, text, w, spent, seen.shift);
     }
     Tried::Empty(seen.shift, spent)
 }
 
 // Whether the last byte of window w stands at no position.
-fn is_unknown(reversed: &[u64], size: usize, text: &[u8], w: usize) -> bool
+fn last_byte_absent(reversed: &[u64], size: usize, text: &[u8], w: usize) -> bool
     requires { ⌜ length (now reversed) ≡ 256 ⌝ }
     requires { ⌜ Window size w (length (now text)) ⌝ }
-    ensures { λ r. ⌜ UnknownIs (now (reversed .entry)) size (now (text .entry)) w r ⌝ }
+    ensures { λ r. ⌜ LastByteAbsent (now (reversed .entry)) size (now (text .entry)) w r ⌝ }
 {
-    let last = byte_search::index(text[w + size - 1]);
+    let last = byte_search::byte_index(text[w + size - 1]);
     reversed[last] == 0
 }
 
@@ -127,7 +135,7 @@ fn count_windows(reversed: &[u64], first: &[u64], rule: Rule, text: &[u8], w: us
     let mut w = w;
     let mut k = 0;
     while w + rule.shortest <= text.len() {
-        if is_unknown(reversed, rule.shortest, text, w) {
+        if last_byte_absent(reversed, rule.shortest, text, w) {
             w += rule.shortest;
             k += 1;
             continue;
@@ -140,23 +148,29 @@ fn count_windows(reversed: &[u64], first: &[u64], rule: Rule, text: &[u8], w: us
     k
 }
 
-// Windows passed over: the next one, and how many they are.
-pub struct Skimmed {
+// Windows skipped: the next one, and how many they are.
+pub struct Skipped {
     pub next: usize,
     pub windows: usize,
 }
 
 // Passes over windows from w on whose last byte stands at no position.
-fn skim_one(reversed: &[u64], first: &[u64], rule: Rule, text: &[u8], w: usize) -> Skimmed
+fn skip_windows_by_last(
+    reversed: &[u64],
+    first: &[u64],
+    rule: Rule,
+    text: &[u8],
+    w: usize,
+) -> Skipped
     requires { ⌜ BackFits (now reversed) (now first) rule ⌝ }
     requires { ⌜ w ≤ length (now text) ⌝ }
-    ensures { λ r. ⌜ SkimmedIs (now (reversed .entry)) rule (now (text .entry)) w (r .next) (r .windows) ⌝ }
+    ensures { λ r. ⌜ SkippedIs (now (reversed .entry)) rule (now (text .entry)) w (r .next) (r .windows) ⌝ }
 {
     let mut w = w;
     let mut k = 0;
     while rule.shortest <= text.len() - w {
-        if !is_unknown(reversed, rule.shortest, text, w) {
-            return Skimmed {
+        if !last_byte_absent(reversed, rule.shortest, text, w) {
+            return Skipped {
                 next: w,
                 windows: k,
             };
@@ -164,25 +178,31 @@ fn skim_one(reversed: &[u64], first: &[u64], rule: Rule, text: &[u8], w: usize) 
         w += rule.shortest;
         k += 1;
     }
-    Skimmed {
+    Skipped {
         next: w,
         windows: k,
     }
 }
 
 // The same where the last two bytes tell it.
-fn skim_two(reversed: &[u64], first: &[u64], rule: Rule, text: &[u8], w: usize) -> Skimmed
+fn skip_windows_by_two(
+    reversed: &[u64],
+    first: &[u64],
+    rule: Rule,
+    text: &[u8],
+    w: usize,
+) -> Skipped
     requires { ⌜ BackFits (now reversed) (now first) rule ⌝ }
     requires { ⌜ 2 ≤ rule .shortest ⌝ }
     requires { ⌜ w ≤ length (now text) ⌝ }
-    ensures { λ r. ⌜ SkimmedIs (now (reversed .entry)) rule (now (text .entry)) w (r .next) (r .windows) ⌝ }
+    ensures { λ r. ⌜ SkippedIs (now (reversed .entry)) rule (now (text .entry)) w (r .next) (r .windows) ⌝ }
 {
     let mut w = w;
     let mut k = 0;
     while rule.shortest <= text.len() - w {
         let back = rule.reversed;
-        if !window_reader::is_quiet(reversed, first, back, rule.shortest, text, w) {
-            return Skimmed {
+        if !window_reader::surely_misses(reversed, first, back, rule.shortest, text, w) {
+            return Skipped {
                 next: w,
                 windows: k,
             };
@@ -190,7 +210,7 @@ fn skim_two(reversed: &[u64], first: &[u64], rule: Rule, text: &[u8], w: usize) 
         w += rule.shortest;
         k += 1;
     }
-    Skimmed {
+    Skipped {
         next: w,
         windows: k,
     }
@@ -200,23 +220,23 @@ fn skim_two(reversed: &[u64], first: &[u64], rule: Rule, text: &[u8], w: usize) 
 const TWO_PAY: usize = 9;
 
 // Passes over windows that hold nothing and are shifted by their size, as far as their last bytes tell.
-fn skim(reversed: &[u64], first: &[u64], rule: Rule, text: &[u8], w: usize) -> Skimmed
+fn skip_windows(reversed: &[u64], first: &[u64], rule: Rule, text: &[u8], w: usize) -> Skipped
     requires { ⌜ BackFits (now reversed) (now first) rule ⌝ }
     requires { ⌜ w ≤ length (now text) ⌝ }
-    ensures { λ r. ⌜ SkimmedIs (now (reversed .entry)) rule (now (text .entry)) w (r .next) (r .windows) ⌝ }
+    ensures { λ r. ⌜ SkippedIs (now (reversed .entry)) rule (now (text .entry)) w (r .next) (r .windows) ⌝ }
 {
     if TWO_PAY <= rule.shortest {
-        return skim_two(reversed, first, rule, text, w);
+        return skip_windows_by_two(reversed, first, rule, text, w);
     }
     if rule.shortest == 2 {
-        return skim_two(reversed, first, rule, text, w);
+        return skip_windows_by_two(reversed, first, rule, text, w);
     }
-    skim_one(reversed, first, rule, text, w)
+    skip_windows_by_last(reversed, first, rule, text, w)
 }
 
 // Tries the windows one after another, and writes the starts into the list from its front, until the
 // windows or the budget are at their end.
-fn verified(
+fn verify_windows(
     forward: &[u64],
     reversed: &[u64],
     first: &[u64],
@@ -234,7 +254,7 @@ fn verified(
     let mut tried = 0;
     let mut spent = 0;
     while w + rule.shortest <= text.len() {
-        let s = skim(reversed, first, rule, text, w);
+        let s = skip_windows(reversed, first, rule, text, w);
         if s.windows != 0 {
             tried += s.windows;
             w = s.next;
@@ -285,7 +305,7 @@ pub fn search_tables(
     requires { ⌜ SearchFits (length (now text)) (length (now starts)) ⌝ }
     ensures { λ r. ⌜ SearchedIs (now (forward .entry)) (now (reversed .entry)) rule (now (text .entry)) (now (starts .entry)) r (now (starts .exit)) ⌝ }
 {
-    let p = verified(forward, reversed, first, rule, text, starts);
+    let p = verify_windows(forward, reversed, first, rule, text, starts);
     let back = rule.reversed;
     let next = p.next;
     let k = window_reader::write_rest(reversed, back, text, next, starts, p.count);
@@ -300,7 +320,7 @@ pub fn search_tables(
 
 // The part of the text from s to the earliest end there, or the empty part at the text's end.
 pub fn part_from(forward: &[u64], m: Masks, text: &[u8], s: usize) -> Span
-    requires { ⌜ Tables (now forward) m ⌝ }
+    requires { ⌜ TableFits (now forward) m ⌝ }
     requires { ⌜ s ≤ length (now text) ⌝ }
     ensures { λ r. ⌜ SpanIs (now (forward .entry)) m (now (text .entry)) s r ⌝ }
 {

@@ -1,4 +1,4 @@
--- `byte_set::add_range` meets its contract. Its laws are in this crate's `proofs/`; `search LAW` finds a law's premises in `c`. Assumes nothing.
+-- `byte_set::add_range` meets its contract.
 use borrow.Author.Needs.{needs}
 use Prim.Native.Nat.{_-_}
 use Rattle.byte_set.proofs.SetSteps.{Adding, adding, add-turn, add-over}

@@ -1,4 +1,4 @@
--- `byte_set::is_empty` meets its contract. Its laws are in this crate's `proofs/`; `search LAW` finds a law's premises in `c`. Assumes nothing.
+-- `byte_set::is_empty` meets its contract.
 use borrow.Author.Needs.{needs}
 use Rattle.byte_set.proofs.SetSteps.{empty-0, empty-1, empty-2, empty-3}
 use Rattle.byte_set.proofs.is_empty.Statement.{statement}

@@ -1,4 +1,4 @@
--- `byte_set::other_case` meets its contract. Its laws are in this crate's `proofs/`; `search LAW` finds a law's premises in `c`. Assumes nothing.
+-- `byte_set::other_case` meets its contract.
 use borrow.Author.Needs.{needs}
 use Rattle.byte_set.proofs.Fold.{table, fold-rule}
 use Rattle.byte_set.proofs.other_case.Statement.{statement}

@@ -1,4 +1,4 @@
--- `byte_set::turned_round` meets its contract. Its laws are in this crate's `proofs/`; `search LAW` finds a law's premises in `c`. Assumes nothing.
+-- `byte_set::turned_round` meets its contract.
 use borrow.Author.Needs.{needs}
 use Rattle.byte_set.proofs.SetSteps.{not-turned, turned-is}
 use Rattle.byte_set.proofs.turned_round.Statement.{statement}

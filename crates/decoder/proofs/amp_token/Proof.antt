@@ -1,4 +1,4 @@
--- `decoder::amp_token` meets its contract. Its laws are in this crate's `proofs/`; `search LAW` finds a law's premises in `c`. Assumes nothing.
+-- `decoder::amp_token` meets its contract.
 use Rattle.decoder.proofs.Tokens.{code-fits, code-steps, token-decoded, token-literal, token-incomplete}
 use native.Mathlib.Omega.{arith}
 use borrow.Author.Needs.{needs}

@@ -1,4 +1,4 @@
--- `decoder::decode` meets its contract. Its laws are in this crate's `proofs/`; `search LAW` finds a law's premises in `c`. Assumes nothing.
+-- `decoder::decode` meets its contract.
 use Rattle.decoder.proofs.Tokens.{too-long, too-short, accepted}
 use borrow.Author.Needs.{needs}
 use Rattle.decoder.proofs.decode.Statement.{statement}

@@ -1,4 +1,4 @@
--- `decoder::decode_all` meets its contract. Its laws are in this crate's `proofs/`; `search LAW` finds a law's premises in `c`. Assumes nothing.
+-- `decoder::decode_all` meets its contract.
 use Prim.Native.Nat.{_-_}
 use lib.ListN.{length}
 use Rattle.decoder.proofs.Tokens.{Writing, begun, turn, over}

@@ -1,4 +1,4 @@
--- `decoder::token` meets its contract. Its laws are in this crate's `proofs/`; `search LAW` finds a law's premises in `c`. Assumes nothing.
+-- `decoder::token` meets its contract.
 use Rattle.decoder.proofs.Tokens.{token-run}
 use borrow.Author.Needs.{needs}
 use Rattle.decoder.proofs.token.Statement.{statement}
@@ -16,26 +16,26 @@ same-length c = search needs
 returns : tie.Need-returns
 returns c = search needs
 
-sub-copy-run : tie.Need-sub-copy-run
-sub-copy-run c = search needs
+sub-copy-literals : tie.Need-sub-copy-literals
+sub-copy-literals c = search needs
 
-part-copy-run-start : tie.Need-part-copy-run-start
-part-copy-run-start c = search needs
+part-copy-literals-start : tie.Need-part-copy-literals-start
+part-copy-literals-start c = search needs
 
-part-copy-run-end : tie.Need-part-copy-run-end
-part-copy-run-end c = search needs
+part-copy-literals-end : tie.Need-part-copy-literals-end
+part-copy-literals-end c = search needs
 
-sub-copy-run-2 : tie.Need-sub-copy-run-2
-sub-copy-run-2 c = search needs
+sub-copy-literals-2 : tie.Need-sub-copy-literals-2
+sub-copy-literals-2 c = search needs
 
-part-copy-run-start-2 : tie.Need-part-copy-run-start-2
-part-copy-run-start-2 c = search needs
+part-copy-literals-start-2 : tie.Need-part-copy-literals-start-2
+part-copy-literals-start-2 c = search needs
 
-part-copy-run-end-2 : tie.Need-part-copy-run-end-2
-part-copy-run-end-2 c = search needs
+part-copy-literals-end-2 : tie.Need-part-copy-literals-end-2
+part-copy-literals-end-2 c = search needs
 
-copy-run-requires : tie.Need-copy-run-requires
-copy-run-requires c κs = search needs
+copy-literals-requires : tie.Need-copy-literals-requires
+copy-literals-requires c κs = search needs
 
 add-t12 : tie.Need-add-t12
 add-t12 c = search needs
@@ -57,13 +57,13 @@ token-spec =
     amp-token-requires
     same-length
     returns
-    sub-copy-run
-    part-copy-run-start
-    part-copy-run-end
-    sub-copy-run-2
-    part-copy-run-start-2
-    part-copy-run-end-2
-    copy-run-requires
+    sub-copy-literals
+    part-copy-literals-start
+    part-copy-literals-end
+    sub-copy-literals-2
+    part-copy-literals-start-2
+    part-copy-literals-end-2
+    copy-literals-requires
     add-t12
     add-t16
     same-length-2

@@ -1,4 +1,4 @@
--- `differential::compare_often` is safe, and keeps what its contract promises. Assumes nothing.
+-- `differential::compare_often` is safe, and keeps what its contract promises.
 use mathlib.Core.Path.{_≡_}
 use lib.ListN.{length}
 use borrow.Author.Needs.{needs}

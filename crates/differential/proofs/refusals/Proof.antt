@@ -1,4 +1,4 @@
--- `differential::refusals` is safe, and keeps what its contract promises. Assumes nothing.
+-- `differential::refusals` is safe, and keeps what its contract promises.
 use Prim.Native.Nat.{_+_, _-_}
 use borrow.Author.Needs.{needs}
 use Rattle.differential.proofs.refusals.Statement.{statement}

@@ -1,4 +1,4 @@
--- `jazhuppe::search` meets its contract. Its laws are in this crate's `proofs/`; `search LAW` finds a law's premises in `c`. Assumes nothing.
+-- `jazhuppe::search` meets its contract.
 use Rattle.jazhuppe.proofs.Parts.{search-refused, search-not-whole, search-ready, search-done}
 use borrow.Author.Needs.{needs}
 use Rattle.jazhuppe.proofs.search.Statement.{statement}

@@ -1,4 +1,4 @@
--- `jazhuppe::search_accepted` meets its contract. Its laws are in this crate's `proofs/`; `search LAW` finds a law's premises in `c`. Assumes nothing.
+-- `jazhuppe::search_accepted` meets its contract.
 use mathlib.Core.Path.{refl}
 use native.Mathlib.Omega.{arith}
 use lib.ListN.{length}
@@ -22,14 +22,14 @@ slice-aggregate-fill-2 c = search needs
 fill-requires-2 : tie.Need-fill-requires-2
 fill-requires-2 c κs = let s = c .before .before .before .before .before .before .before .before in fillable (s .args .fold) (s .args .rule .now) (s .args .p) (length (s .args .text .now)) (length (s .args .starts .now)) (s .pre) _ refl
 
-slice-aggregate-first-steps : tie.Need-slice-aggregate-first-steps
-slice-aggregate-first-steps c = search needs
+slice-aggregate-last-byte-states : tie.Need-slice-aggregate-last-byte-states
+slice-aggregate-last-byte-states c = search needs
 
-slice-aggregate-first-steps-2 : tie.Need-slice-aggregate-first-steps-2
-slice-aggregate-first-steps-2 c = search needs
+slice-aggregate-last-byte-states-2 : tie.Need-slice-aggregate-last-byte-states-2
+slice-aggregate-last-byte-states-2 c = search needs
 
-first-steps-requires : tie.Need-first-steps-requires
-first-steps-requires c κs =
+last-byte-states-requires : tie.Need-last-byte-states-requires
+last-byte-states-requires c κs =
     let s = c .before .before .before .before .before .before .before .before .before .before .before .before .before in
     (back-fits (s .args .fold) (s .args .rule .now) (s .args .p) (length (s .args .text .now)) (length (s .args .starts .now)) (s .pre) (bytes-known (s .args .rule .now) (c .before .before .before .before .before .before .before .before .before .before .before .before .shared-slice-known .given)) _ _ (c .before .before .before .before .before .before .before .before .before .rule-of .result) (c .before .before .before .before .before .before .before .before .before .rule-of .ensures) (c .before .before .before .before .before .before .before .fill .ensures) (c .before .before .before .before .fill2 .ensures), search needs)
 
@@ -45,7 +45,7 @@ slice-aggregate-search-tables-3 c = search needs
 search-tables-requires : tie.Need-search-tables-requires
 search-tables-requires c κs =
     let s = c .before .before .before .before .before .before .before .before .before .before .before .before .before .before .before .before .before .before .before in
-    (rule-fits (s .args .fold) (s .args .rule .now) (s .args .p) (length (s .args .text .now)) (length (s .args .starts .now)) (s .pre) (bytes-known (s .args .rule .now) (c .before .before .before .before .before .before .before .before .before .before .before .before .before .before .before .before .before .before .shared-slice-known .given)) _ _ (c .before .before .before .before .before .before .before .before .before .before .before .before .before .before .before .rule-of .result) (c .before .before .before .before .before .before .before .before .before .before .before .before .before .before .before .rule-of .ensures) (c .before .before .before .before .before .before .before .before .before .before .before .before .before .fill .ensures) (c .before .before .before .before .before .before .before .before .before .before .fill2 .ensures) (c .before .before .before .before .before .first-steps .ensures), search-fits (s .args .fold) (s .args .rule .now) (s .args .p) (length (s .args .text .now)) (length (s .args .starts .now)) (s .pre))
+    (rule-fits (s .args .fold) (s .args .rule .now) (s .args .p) (length (s .args .text .now)) (length (s .args .starts .now)) (s .pre) (bytes-known (s .args .rule .now) (c .before .before .before .before .before .before .before .before .before .before .before .before .before .before .before .before .before .before .shared-slice-known .given)) _ _ (c .before .before .before .before .before .before .before .before .before .before .before .before .before .before .before .rule-of .result) (c .before .before .before .before .before .before .before .before .before .before .before .before .before .before .before .rule-of .ensures) (c .before .before .before .before .before .before .before .before .before .before .before .before .before .fill .ensures) (c .before .before .before .before .before .before .before .before .before .before .fill2 .ensures) (c .before .before .before .before .before .last-byte-states .ensures), search-fits (s .args .fold) (s .args .rule .now) (s .args .p) (length (s .args .text .now)) (length (s .args .starts .now)) (s .pre))
 
 cast-count : tie.Need-cast-count
 cast-count c = let x = c .before .before .before .search-tables .ensures in let s = c .before .before .before .before .before .before .before .before .before .before .before .before .before .before .before .before .before .before .before .before .before .before .before .pre .small in omega (arith, x .few)
@@ -73,9 +73,9 @@ search-accepted-spec =
     fill-requires
     slice-aggregate-fill-2
     fill-requires-2
-    slice-aggregate-first-steps
-    slice-aggregate-first-steps-2
-    first-steps-requires
+    slice-aggregate-last-byte-states
+    slice-aggregate-last-byte-states-2
+    last-byte-states-requires
     slice-aggregate-search-tables
     slice-aggregate-search-tables-2
     slice-aggregate-search-tables-3

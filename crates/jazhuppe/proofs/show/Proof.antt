@@ -1,4 +1,4 @@
--- `jazhuppe::show` meets its contract. Its laws are in this crate's `proofs/`. Assumes nothing.
+-- `jazhuppe::show` meets its contract.
 use Rattle.jazhuppe.proofs.Shows.{shows-part}
 use borrow.Author.Needs.{needs}
 use Rattle.jazhuppe.proofs.show.Statement.{statement}

@@ -1,4 +1,4 @@
--- `jazhuppe::span` meets its contract. Its laws are in this crate's `proofs/`; `search LAW` finds a law's premises in `c`. Assumes nothing.
+-- `jazhuppe::span` meets its contract.
 use Rattle.jazhuppe.proofs.Shows.{shown-refused, shown-long, shown-past, shown-ready, shown-done}
 use borrow.Author.Needs.{needs}
 use Rattle.jazhuppe.proofs.span.Statement.{statement}

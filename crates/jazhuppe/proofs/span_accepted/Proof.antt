@@ -1,4 +1,4 @@
--- `jazhuppe::span_accepted` meets its contract. Its laws are in this crate's `proofs/`; `search LAW` finds a law's premises in `c`. Assumes nothing.
+-- `jazhuppe::span_accepted` meets its contract.
 use mathlib.Core.Path.{refl}
 use Rattle.jazhuppe.proofs.Parts.{bytes-known}
 use Rattle.jazhuppe.proofs.Shows.{shown-fillable, part-shown}

@@ -1,4 +1,4 @@
--- `jazhuppe::whole` meets its contract. Its laws are in this crate's `proofs/`; `search LAW` finds a law's premises in `c`. Assumes nothing.
+-- `jazhuppe::whole` meets its contract.
 use Rattle.jazhuppe.proofs.Parts.{whole-10, whole-9, whole-0}
 use Rattle.jazhuppe.proofs.whole.Statement.{statement}
 use Rattle.jazhuppe.proofs.whole.Tie as tie

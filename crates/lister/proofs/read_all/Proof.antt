@@ -1,4 +1,4 @@
--- `lister::read_all` is safe, and keeps what its contract promises. Assumes nothing.
+-- `lister::read_all` is safe, and keeps what its contract promises.
 use mathlib.Core.Path.{_≡_}
 use lib.ListN.{length}
 use borrow.Author.Needs.{needs}

@@ -1,4 +1,4 @@
--- `lister_core::numbers` is safe, and keeps what its contract promises. Assumes nothing.
+-- `lister_core::numbers` is safe, and keeps what its contract promises.
 use Prim.Native.Nat.{_-_}
 use lib.ListN.{length}
 use borrow.Author.Needs.{needs}

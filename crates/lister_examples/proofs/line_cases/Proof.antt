@@ -1,4 +1,4 @@
--- `lister_examples::line_cases` is safe, and keeps what its contract promises. Assumes nothing.
+-- `lister_examples::line_cases` is safe, and keeps what its contract promises.
 use Prim.Native.Nat.{_-_}
 use lib.ListN.{length}
 use borrow.Author.Needs.{needs}

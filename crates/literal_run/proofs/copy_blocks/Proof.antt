@@ -1,5 +1,5 @@
--- `literal_run::copy_blocks` meets its contract. Its laws are in this crate's `proofs/`; `search LAW` finds a law's premises in `c`. Assumes nothing.
-use Rattle.literal_run.proofs.RunLaws.{Copying, blocks-begun, copy-block, blocks-copied}
+-- `literal_run::copy_blocks` meets its contract.
+use Rattle.literal_run.proofs.LiteralLaws.{Copying, blocks-begun, copy-block, blocks-copied}
 use lib.ListN.{length}
 use Prim.Native.Nat.{_-_}
 use borrow.Author.Needs.{needs}
@@ -18,8 +18,8 @@ loop-holds c = search blocks-begun
 sub-loop : tie.Need-sub-loop Inv-loop μ-loop
 sub-loop c = search needs
 
-any-amp-requires : tie.Need-any-amp-requires Inv-loop μ-loop
-any-amp-requires c κs = search needs
+block-has-amp-requires : tie.Need-block-has-amp-requires Inv-loop μ-loop
+block-has-amp-requires c κs = search needs
 
 same-length : tie.Need-same-length Inv-loop μ-loop
 same-length c = search needs
@@ -53,7 +53,7 @@ copy-blocks-spec =
     μ-loop
     loop-holds
     sub-loop
-    any-amp-requires
+    block-has-amp-requires
     same-length
     returns
     copy-block-requires

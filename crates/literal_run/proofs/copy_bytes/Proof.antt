@@ -1,7 +1,7 @@
--- `literal_run::copy_bytes` meets its contract. Its laws are in this crate's `proofs/`; `search LAW` finds a law's premises in `c`. Assumes nothing.
+-- `literal_run::copy_bytes` meets its contract.
 use Prim.Native.Nat.{_-_}
 use lib.ListN.{length}
-use Rattle.literal_run.proofs.RunLaws.{Copying, copy-begun, copy-byte, rest-stops, rest-ends}
+use Rattle.literal_run.proofs.LiteralLaws.{Copying, copy-begun, copy-byte, rest-stops, rest-ends}
 use borrow.Author.Needs.{needs}
 use Rattle.literal_run.proofs.copy_bytes.Statement.{statement}
 use Rattle.literal_run.proofs.copy_bytes.Tie as tie

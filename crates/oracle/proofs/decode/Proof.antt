@@ -1,4 +1,4 @@
--- `oracle::decode` is safe, and keeps what its contract promises. Assumes nothing.
+-- `oracle::decode` is safe, and keeps what its contract promises.
 use borrow.Author.Needs.{needs}
 use Rattle.oracle.proofs.decode.Statement.{statement}
 use Rattle.oracle.proofs.decode.Tie as tie

@@ -1,4 +1,4 @@
--- `oracle::search` is safe, and keeps what its contract promises. Assumes nothing.
+-- `oracle::search` is safe, and keeps what its contract promises.
 use borrow.Author.Needs.{needs}
 use Rattle.oracle.proofs.search.Statement.{statement}
 use Rattle.oracle.proofs.search.Tie as tie

@@ -1,4 +1,4 @@
--- `oracle::shift` is safe, and keeps what its contract promises. Assumes nothing.
+-- `oracle::shift` is safe, and keeps what its contract promises.
 use Prim.Native.Nat.{_-_, _<_, _≤_}
 use lib.ListN.{length}
 use borrow.Author.Needs.{needs}

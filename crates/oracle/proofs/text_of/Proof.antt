@@ -1,4 +1,4 @@
--- `oracle::text_of` is safe, and keeps what its contract promises. Assumes nothing.
+-- `oracle::text_of` is safe, and keeps what its contract promises.
 use borrow.Author.Needs.{needs}
 use Rattle.oracle.proofs.text_of.Statement.{statement}
 use Rattle.oracle.proofs.text_of.Tie as tie

@@ -1,50 +1,34 @@
--- `prefilter::choose` meets its contract. Its laws are in this crate's `proofs/`; `search LAW` finds a law's premises in `c`. Assumes nothing.
-use Prim.Native.Nat.{_-_, _≤_}
+-- `prefilter::choose` meets its contract.
 use borrow.Author.Needs.{needs}
+use Rattle.prefilter.proofs.Choosing.{plan-none, start-is}
 use Rattle.prefilter.proofs.choose.Statement.{statement}
 use Rattle.prefilter.proofs.choose.Tie as tie
 
-abbrev Inv-loop : tie.InvT-loop
-Inv-loop table free rank rare r₀ r = 0 ≤ r
+start-state-requires : tie.Need-start-state-requires
+start-state-requires c κs = search needs
 
-abbrev μ-loop : tie.MeasureT-loop
-μ-loop table free rank rare r₀ r = 256 - r
+returns : tie.Need-returns
+returns c = search plan-none
 
-loop-holds : tie.Need-loop-holds Inv-loop μ-loop
-loop-holds c = search needs
+accepts-requires : tie.Need-accepts-requires
+accepts-requires c κs = search needs
 
-element-copy-out-c : tie.Need-element-copy-out-c Inv-loop μ-loop
-element-copy-out-c c = search needs
+returns-2 : tie.Need-returns-2
+returns-2 c = search plan-none
 
-lone-requires : tie.Need-lone-requires Inv-loop μ-loop
-lone-requires c κs = search needs
+choose-pair-requires : tie.Need-choose-pair-requires
+choose-pair-requires c κs = search (start-is, needs)
 
-returns : tie.Need-returns Inv-loop μ-loop
-returns c = search needs
-
-add-r : tie.Need-add-r Inv-loop μ-loop
-add-r c = search needs
-
-loop-less : tie.Need-loop-less Inv-loop μ-loop
-loop-less c = search needs
-
-loop-again : tie.Need-loop-again Inv-loop μ-loop
-loop-again c = search needs
-
-returns-2 : tie.Need-returns-2 Inv-loop μ-loop
-returns-2 c = search needs
+returns-3 : tie.Need-returns-3
+returns-3 c = search needs
 
 pub choose-spec : {M : Type 1} → statement M
 choose-spec =
     tie.close
     (tie.spec
-    Inv-loop
-    μ-loop
-    loop-holds
-    element-copy-out-c
-    lone-requires
+    start-state-requires
     returns
-    add-r
-    loop-less
-    loop-again
-    returns-2)
+    accepts-requires
+    returns-2
+    choose-pair-requires
+    returns-3)

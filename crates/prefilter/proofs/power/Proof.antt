@@ -1,6 +1,6 @@
--- `prefilter::power` meets its contract. Its laws are in this crate's `proofs/`; `search LAW` finds a law's premises in `c`. Assumes nothing.
+-- `prefilter::power` meets its contract.
 use borrow.Author.Needs.{needs}
-use Rattle.prefilter.proofs.Fitting.{power-is}
+use Rattle.prefilter.proofs.PairTests.{power-is}
 use Rattle.prefilter.proofs.power.Statement.{statement}
 use Rattle.prefilter.proofs.power.Tie as tie
 

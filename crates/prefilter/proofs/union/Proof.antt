@@ -1,7 +1,7 @@
--- `prefilter::union` meets its contract. Its laws are in this crate's `proofs/`; `search LAW` finds a law's premises in `c`. Assumes nothing.
+-- `prefilter::union` meets its contract.
 use Prim.Native.Nat.{_-_}
-use Rattle.prefilter.proofs.Fitting.{unite-begun, unite-on, unite-over}
-use Rattle.prefilter.specs.Plans.{Union}
+use Rattle.prefilter.proofs.PairTests.{unite-begun, unite-on, unite-over}
+use Rattle.prefilter.specs.Soundness.{Union}
 use borrow.Author.Needs.{needs}
 use Rattle.prefilter.proofs.union.Statement.{statement}
 use Rattle.prefilter.proofs.union.Tie as tie

@@ -1,5 +1,5 @@
--- `prefilter_search::find_pair` meets its contract. Its laws are in this crate's `proofs/`; `search LAW` finds a law's premises in `c`. Assumes nothing.
-use Rattle.byte_search.proofs.LookLaws.{miss-first, miss-first-then}
+-- `prefilter_search::find_pair` meets its contract.
+use Rattle.byte_search.proofs.BlockLaws.{miss-first, miss-first-then}
 use borrow.Author.Needs.{needs}
 use Rattle.prefilter_search.proofs.find_pair.Statement.{statement}
 use Rattle.prefilter_search.proofs.find_pair.Tie as tie
@@ -7,8 +7,8 @@ use Rattle.prefilter_search.proofs.find_pair.Tie as tie
 sub-if1 : tie.Need-sub-if1
 sub-if1 c = search needs
 
-far-pair-requires : tie.Need-far-pair-requires
-far-pair-requires c κs = search needs
+find-pair-far-requires : tie.Need-find-pair-far-requires
+find-pair-far-requires c κs = search needs
 
 returns : tie.Need-returns
 returns c = search needs
@@ -22,8 +22,8 @@ sub-if2 c = search needs
 returns-2 : tie.Need-returns-2
 returns-2 c = search miss-first
 
-far-pair-requires-2 : tie.Need-far-pair-requires-2
-far-pair-requires-2 c κs = search needs
+find-pair-far-requires-2 : tie.Need-find-pair-far-requires-2
+find-pair-far-requires-2 c κs = search needs
 
 returns-3 : tie.Need-returns-3
 returns-3 c = search miss-first-then
@@ -33,10 +33,10 @@ find-pair-spec =
     tie.close
     (tie.spec
     sub-if1
-    far-pair-requires
+    find-pair-far-requires
     returns
     first-pair-requires
     sub-if2
     returns-2
-    far-pair-requires-2
+    find-pair-far-requires-2
     returns-3)

@@ -1,8 +1,8 @@
--- `prefilter_search::first_pair` meets its contract. Its laws are in this crate's `proofs/`; `search LAW` finds a law's premises in `c`. Assumes nothing.
+-- `prefilter_search::first_pair` meets its contract.
 use Prim.Native.Nat.{_-_}
-use Rattle.byte_search.proofs.LookLaws.{Nearest, near-begun, near-over}
-use Rattle.prefilter_search.proofs.LookoutLaws.{pair-near}
-use Rattle.prefilter_search.specs.Lookouts.{pairAt}
+use Rattle.byte_search.proofs.BlockLaws.{Nearest, near-begun, near-over}
+use Rattle.prefilter_search.proofs.CandidateLaws.{pair-near}
+use Rattle.prefilter_search.specs.Candidates.{pairAt}
 use borrow.Author.Needs.{needs}
 use Rattle.prefilter_search.proofs.first_pair.Statement.{statement}
 use Rattle.prefilter_search.proofs.first_pair.Tie as tie
@@ -25,11 +25,11 @@ add-is-pair c = search needs
 is-pair-requires : tie.Need-is-pair-requires Inv-loop μ-loop
 is-pair-requires c κs = search needs
 
-placed-requires : tie.Need-placed-requires Inv-loop μ-loop
-placed-requires c κs = search needs
+lane-or-end-requires : tie.Need-lane-or-end-requires Inv-loop μ-loop
+lane-or-end-requires c κs = search needs
 
-nearer-requires : tie.Need-nearer-requires Inv-loop μ-loop
-nearer-requires c κs = search needs
+min-requires : tie.Need-min-requires Inv-loop μ-loop
+min-requires c κs = search needs
 
 add-j : tie.Need-add-j Inv-loop μ-loop
 add-j c = search needs
@@ -59,8 +59,8 @@ first-pair-spec =
     cast-k
     add-is-pair
     is-pair-requires
-    placed-requires
-    nearer-requires
+    lane-or-end-requires
+    min-requires
     add-j
     loop-less
     loop-again

@@ -1,4 +1,4 @@
--- `prefilter_search::is_pair` meets its contract. Its laws are in this crate's `proofs/`; `search LAW` finds a law's premises in `c`. Assumes nothing.
+-- `prefilter_search::is_pair` meets its contract.
 use borrow.Author.Needs.{needs}
 use Rattle.prefilter_search.proofs.is_pair.Statement.{statement}
 use Rattle.prefilter_search.proofs.is_pair.Tie as tie

@@ -1,4 +1,4 @@
--- `reference_reader::byte_or_zero` meets its contract. Its laws are in this crate's `proofs/`; `search LAW` finds a law's premises in `c`. Assumes nothing.
+-- `reference_reader::byte_or_zero` meets its contract.
 use Rattle.reference_reader.proofs.Numbers.{past}
 use borrow.Author.Needs.{needs}
 use Rattle.reference_reader.proofs.byte_or_zero.Statement.{statement}

@@ -1,4 +1,4 @@
--- `reference_reader::decode_if_char` meets its contract. Its laws are in this crate's `proofs/`; `search LAW` finds a law's premises in `c`. Assumes nothing.
+-- `reference_reader::decode_if_char` meets its contract.
 use Rattle.reference_reader.proofs.Numbers.{is-legal, not-legal}
 use borrow.Author.Needs.{needs}
 use Rattle.reference_reader.proofs.decode_if_char.Statement.{statement}

@@ -1,4 +1,4 @@
--- `reference_reader::digit` meets its contract. Its laws are in this crate's `proofs/`; `search LAW` finds a law's premises in `c`. Assumes nothing.
+-- `reference_reader::digit` meets its contract.
 use Rattle.reference_reader.proofs.Numbers.{digit-low, digit-decimal, digit-other, digit-between, digit-upper, digit-after, digit-small, digit-high}
 use borrow.Author.Needs.{needs}
 use Rattle.reference_reader.proofs.digit.Statement.{statement}

@@ -1,4 +1,4 @@
--- `reference_reader::is_char` meets its contract. Its laws are in this crate's `proofs/`; `search LAW` finds a law's premises in `c`. Assumes nothing.
+-- `reference_reader::is_char` meets its contract.
 use Rattle.reference_reader.proofs.Numbers.{char-9, char-10, char-13, char-low, char-first, char-surrogate, char-second, char-last, char-third, char-over}
 use Rattle.reference_reader.proofs.is_char.Statement.{statement}
 use Rattle.reference_reader.proofs.is_char.Tie as tie

@@ -1,4 +1,4 @@
--- `reference_reader::match_name` meets its contract. Its laws are in this crate's `proofs/`; `search LAW` finds a law's premises in `c`. Assumes nothing.
+-- `reference_reader::match_name` meets its contract.
 use Prim.Native.Nat.{_-_}
 use lib.ListN.{length}
 use Rattle.reference_reader.proofs.Numbers.{Matching, matching, matched-short, matched-differs, matched-same, matched-whole}

@@ -1,4 +1,4 @@
--- `reference_reader::push_digit` meets its contract. Its laws are in this crate's `proofs/`; `search LAW` finds a law's premises in `c`. Assumes nothing.
+-- `reference_reader::push_digit` meets its contract.
 use Rattle.reference_reader.proofs.Numbers.{push-hex, push-decimal}
 use borrow.Author.Needs.{needs}
 use Rattle.reference_reader.proofs.push_digit.Statement.{statement}

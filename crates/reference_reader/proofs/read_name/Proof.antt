@@ -1,4 +1,4 @@
--- `reference_reader::read_name` meets its contract. Its laws are in this crate's `proofs/`; `search LAW` finds a law's premises in `c`. Assumes nothing.
+-- `reference_reader::read_name` meets its contract.
 use Rattle.reference_reader.proofs.Readings.{whole-amp, prefix-amp, whole-lt, prefix-lt, whole-gt, prefix-gt, whole-apos, prefix-apos, whole-quot, prefix-quot, no-name}
 use borrow.Author.Needs.{needs}
 use Rattle.reference_reader.proofs.read_name.Statement.{statement}

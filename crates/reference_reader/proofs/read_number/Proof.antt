@@ -1,4 +1,4 @@
--- `reference_reader::read_number` meets its contract. Its laws are in this crate's `proofs/`; `search LAW` finds a law's premises in `c`. Assumes nothing.
+-- `reference_reader::read_number` meets its contract.
 use Rattle.reference_reader.proofs.Numbers.{Numbering, numbering, number-broken, number-empty, number-ends, number-turn, number-bare, number-bare-full, number-open, number-full}
 use lib.ListN.{length}
 use Prim.Native.Nat.{_-_}

@@ -1,4 +1,4 @@
--- `reference_reader::read_reference` meets its contract. Its laws are in this crate's `proofs/`; `search LAW` finds a law's premises in `c`. Assumes nothing.
+-- `reference_reader::read_reference` meets its contract.
 use native.Mathlib.Omega.{arith}
 use lib.ListN.{length-take}
 use Rattle.reference_reader.proofs.Readings.{read-front}

@@ -1,4 +1,4 @@
--- `reference_reader::read_short` meets its contract. Its laws are in this crate's `proofs/`; `search LAW` finds a law's premises in `c`. Assumes nothing.
+-- `reference_reader::read_short` meets its contract.
 use Rattle.reference_reader.proofs.Readings.{not-amp, name-place, hex-place, decimal-place, after-mark, after-hash}
 use borrow.Author.Needs.{needs}
 use Rattle.reference_reader.proofs.read_short.Statement.{statement}

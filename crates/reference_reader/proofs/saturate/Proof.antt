@@ -1,4 +1,4 @@
--- `reference_reader::saturate` meets its contract. Its laws are in this crate's `proofs/`; `search LAW` finds a law's premises in `c`. Assumes nothing.
+-- `reference_reader::saturate` meets its contract.
 use Rattle.reference_reader.proofs.Numbers.{saturate-over, saturate-under}
 use Rattle.reference_reader.proofs.saturate.Statement.{statement}
 use Rattle.reference_reader.proofs.saturate.Tie as tie

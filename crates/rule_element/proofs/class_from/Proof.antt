@@ -1,4 +1,4 @@
--- `rule_element::class_from` meets its contract. Its laws are in this crate's `proofs/`; `search LAW` finds a law's premises in `c`. Assumes nothing.
+-- `rule_element::class_from` meets its contract.
 use borrow.Author.Needs.{needs}
 use Rattle.rule_element.proofs.Classes.{class-empty, class-open, class-bare, class-good}
 use Rattle.rule_element.proofs.class_from.Statement.{statement}

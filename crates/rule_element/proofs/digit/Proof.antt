@@ -1,4 +1,4 @@
--- `rule_element::digit` meets its contract. Its laws are in this crate's `proofs/`; `search LAW` finds a law's premises in `c`. Assumes nothing.
+-- `rule_element::digit` meets its contract.
 use borrow.Author.Needs.{needs}
 use Rattle.rule_element.proofs.Gaps.{digit-low, digit-high, digit-is}
 use Rattle.rule_element.proofs.digit.Statement.{statement}

@@ -1,4 +1,4 @@
--- `rule_element::escapable` meets its contract. Its laws are in this crate's `proofs/`; `search LAW` finds a law's premises in `c`. Assumes nothing.
+-- `rule_element::escapable` meets its contract.
 use Rattle.rule_element.proofs.Ends.{escapes-none}
 use Rattle.rule_element.proofs.escapable.Statement.{statement}
 use Rattle.rule_element.proofs.escapable.Tie as tie

@@ -1,4 +1,4 @@
--- `rule_element::read_bound` meets its contract. Its laws are in this crate's `proofs/`; `search LAW` finds a law's premises in `c`. Assumes nothing.
+-- `rule_element::read_bound` meets its contract.
 use borrow.Author.Needs.{needs}
 use Rattle.rule_element.proofs.Gaps.{bound-past, bound-none, bound-one, bound-two}
 use Rattle.rule_element.proofs.read_bound.Statement.{statement}

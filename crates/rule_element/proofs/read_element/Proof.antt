@@ -1,4 +1,4 @@
--- `rule_element::read_element` meets its contract. Its laws are in this crate's `proofs/`; `search LAW` finds a law's premises in `c`. Assumes nothing.
+-- `rule_element::read_element` meets its contract.
 use borrow.Author.Needs.{needs}
 use native.Mathlib.Omega.{arith}
 use Rattle.rule_element.proofs.Elements.{kind-inside, element-fault, element-over, element-good}

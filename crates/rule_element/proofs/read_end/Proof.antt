@@ -1,4 +1,4 @@
--- `rule_element::read_end` meets its contract. Its laws are in this crate's `proofs/`; `search LAW` finds a law's premises in `c`. Assumes nothing.
+-- `rule_element::read_end` meets its contract.
 use borrow.Author.Needs.{needs}
 use Rattle.rule_element.proofs.Ends.{end-past, end-escaped, end-closing, end-dash, end-plain}
 use Rattle.rule_element.proofs.read_end.Statement.{statement}

@@ -1,4 +1,4 @@
--- `rule_element::read_escape` meets its contract. Its laws are in this crate's `proofs/`; `search LAW` finds a law's premises in `c`. Assumes nothing.
+-- `rule_element::read_escape` meets its contract.
 use borrow.Author.Needs.{needs}
 use Rattle.rule_element.proofs.Ends.{escape-past, escaped, not-escaped}
 use Rattle.rule_element.proofs.read_escape.Statement.{statement}

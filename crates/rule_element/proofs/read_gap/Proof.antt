@@ -1,4 +1,4 @@
--- `rule_element::read_gap` meets its contract. Its laws are in this crate's `proofs/`; `search LAW` finds a law's premises in `c`. Assumes nothing.
+-- `rule_element::read_gap` meets its contract.
 use borrow.Author.Needs.{needs}
 use Rattle.rule_element.proofs.Gaps.{gap-bare, gap-comma, gap-bare-2, gap-brace, gap-reversed, gap-zero, gap-good}
 use Rattle.rule_element.proofs.read_gap.Statement.{statement}

@@ -1,4 +1,4 @@
--- `rule_element::read_kind` meets its contract. Its laws are in this crate's `proofs/`; `search LAW` finds a law's premises in `c`. Assumes nothing.
+-- `rule_element::read_kind` meets its contract.
 use borrow.Author.Needs.{needs}
 use Rattle.rule_element.proofs.KindLaws.{kind-any, kind-class, kind-gap, kind-no-escape, kind-escape, kind-question, kind-plus, kind-star, kind-bracket, kind-brace, kind-plain}
 use Rattle.rule_element.proofs.read_kind.Statement.{statement}

@@ -1,4 +1,4 @@
--- `rule_element::read_mark` meets its contract. Its laws are in this crate's `proofs/`; `search LAW` finds a law's premises in `c`. Assumes nothing.
+-- `rule_element::read_mark` meets its contract.
 use borrow.Author.Needs.{needs}
 use Rattle.rule_element.proofs.KindLaws.{mark-optional, mark-repeatable, mark-both, mark-once}
 use Rattle.rule_element.proofs.read_mark.Statement.{statement}

@@ -1,4 +1,4 @@
--- `rule_parser::add_element` meets its contract. Its laws are in this crate's `proofs/`; `search LAW` finds a law's premises in `c`. Assumes nothing.
+-- `rule_parser::add_element` meets its contract.
 use borrow.Author.Needs.{needs}
 use Rattle.rule_parser.proofs.ElementMasks.{gained-is}
 use Rattle.rule_parser.proofs.add_element.Statement.{statement}

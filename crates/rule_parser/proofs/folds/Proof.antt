@@ -1,4 +1,4 @@
--- `rule_parser::folds` meets its contract. Its laws are in this crate's `proofs/`; `search LAW` finds a law's premises in `c`. Assumes nothing.
+-- `rule_parser::folds` meets its contract.
 use Rattle.rule_parser.proofs.PrepareLaws.{folds-not, folds-so}
 use Rattle.rule_parser.proofs.folds.Statement.{statement}
 use Rattle.rule_parser.proofs.folds.Tie as tie

@@ -1,4 +1,4 @@
--- `rule_parser::low_ones` meets its contract. Its laws are in this crate's `proofs/`; `search LAW` finds a law's premises in `c`. Assumes nothing.
+-- `rule_parser::low_ones` meets its contract.
 use borrow.Author.Needs.{needs}
 use Rattle.rule_parser.proofs.ElementMasks.{some-shifted, ones-are}
 use Rattle.rule_parser.proofs.low_ones.Statement.{statement}

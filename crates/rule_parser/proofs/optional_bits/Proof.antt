@@ -1,4 +1,4 @@
--- `rule_parser::optional_bits` meets its contract. Its laws are in this crate's `proofs/`; `search LAW` finds a law's premises in `c`. Assumes nothing.
+-- `rule_parser::optional_bits` meets its contract.
 use borrow.Author.Needs.{needs}
 use native.Mathlib.Omega.{arith}
 use Rattle.rule_parser.proofs.ElementMasks.{optional-byte, optional-any, optional-class, optional-gap, gap-fits}

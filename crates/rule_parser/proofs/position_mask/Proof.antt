@@ -1,4 +1,4 @@
--- `rule_parser::position_mask` meets its contract. Its laws are in this crate's `proofs/`; `search LAW` finds a law's premises in `c`. Assumes nothing.
+-- `rule_parser::position_mask` meets its contract.
 use borrow.Author.Needs.{needs}
 use Rattle.rule_parser.proofs.PrepareLaws.{all-positions}
 use Rattle.rule_parser.proofs.position_mask.Statement.{statement}

@@ -1,4 +1,4 @@
--- `rule_parser::prepare` meets its contract. Its laws are in this crate's `proofs/`; `search LAW` finds a law's premises in `c`. Assumes nothing.
+-- `rule_parser::prepare` meets its contract.
 use borrow.Author.Needs.{needs}
 use Rattle.rule_parser.proofs.PrepareLaws.{prepare-none, prepare-long, prepare-refused, few-positions, prepare-bare, prepare-good}
 use Rattle.rule_parser.proofs.prepare.Statement.{statement}

@@ -1,11 +1,11 @@
--- `rule_table::admit_byte` meets its contract. Its laws are in this crate's `proofs/`; `search LAW` finds a law's premises in `c`. Assumes nothing.
+-- `rule_table::admit_byte` meets its contract.
 use borrow.Author.Needs.{needs}
 use Rattle.rule_table.proofs.GainLaws.{byte-once, byte-twice}
 use Rattle.rule_table.proofs.admit_byte.Statement.{statement}
 use Rattle.rule_table.proofs.admit_byte.Tie as tie
 
-index-requires : tie.Need-index-requires
-index-requires c κs = search needs
+byte-index-requires : tie.Need-byte-index-requires
+byte-index-requires c κs = search needs
 
 mul-own : tie.Need-mul-own
 mul-own c = search needs
@@ -16,8 +16,8 @@ slice-read-own c = search needs
 other-case-requires : tie.Need-other-case-requires
 other-case-requires c κs = search needs
 
-index-requires-2 : tie.Need-index-requires-2
-index-requires-2 c κs = search needs
+byte-index-requires-2 : tie.Need-byte-index-requires-2
+byte-index-requires-2 c κs = search needs
 
 mul-table : tie.Need-mul-table
 mul-table c = search needs
@@ -59,11 +59,11 @@ pub admit-byte-spec : {M : Type 1} → statement M
 admit-byte-spec =
     tie.close
     (tie.spec
-    index-requires
+    byte-index-requires
     mul-own
     slice-read-own
     other-case-requires
-    index-requires-2
+    byte-index-requires-2
     mul-table
     slice-read-table
     mul-table-2

@@ -1,4 +1,4 @@
--- `rule_table::admit_element` meets its contract. Its laws are in this crate's `proofs/`; `search LAW` finds a law's premises in `c`. Assumes nothing.
+-- `rule_table::admit_element` meets its contract.
 use borrow.Author.Needs.{needs}
 use Rattle.rule_table.proofs.GainLaws.{element-byte, element-any, element-class, element-gap}
 use Rattle.rule_table.proofs.admit_element.Statement.{statement}

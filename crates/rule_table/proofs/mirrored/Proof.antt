@@ -1,4 +1,4 @@
--- `rule_table::mirrored` meets its contract. Its laws are in this crate's `proofs/`; `search LAW` finds a law's premises in `c`. Assumes nothing.
+-- `rule_table::mirrored` meets its contract.
 use borrow.Author.Needs.{needs}
 use Prim.Native.Nat.{_/_}
 use Rattle.rule_table.proofs.Encoded.{Mirroring, mirror-begun, mirror-turn, mirror-over}

@@ -1,4 +1,4 @@
--- `rule_table::place` meets its contract. Its laws are in this crate's `proofs/`; `search LAW` finds a law's premises in `c`. Assumes nothing.
+-- `rule_table::place` meets its contract.
 use borrow.Author.Needs.{needs}
 use Rattle.rule_table.proofs.GainLaws.{placed}
 use Rattle.rule_table.proofs.place.Statement.{statement}

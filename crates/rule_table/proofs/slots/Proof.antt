@@ -1,4 +1,4 @@
--- `rule_table::slots` meets its contract. Its laws are in this crate's `proofs/`; `search LAW` finds a law's premises in `c`. Assumes nothing.
+-- `rule_table::slots` meets its contract.
 use borrow.Author.Needs.{needs}
 use Rattle.rule_table.proofs.GainLaws.{slots-back, slots-on}
 use Rattle.rule_table.proofs.slots.Statement.{statement}

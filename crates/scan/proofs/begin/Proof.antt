@@ -1,4 +1,4 @@
--- `scan::begin` meets its contract. Its laws are in this crate's `proofs/`; `search LAW` finds a law's premises in `c`. Assumes nothing.
+-- `scan::begin` meets its contract.
 use Rattle.scan.proofs.Opens.{begin-is, begin-long}
 use borrow.Author.Needs.{needs}
 use Rattle.scan.proofs.begin.Statement.{statement}
@@ -16,8 +16,8 @@ cast-scan c = search needs
 slice-write-scan-3 : tie.Need-slice-write-scan-3
 slice-write-scan-3 c = search needs
 
-opening-requires : tie.Need-opening-requires
-opening-requires c κs = search needs
+start-state-requires : tie.Need-start-state-requires
+start-state-requires c κs = search needs
 
 put-requires : tie.Need-put-requires
 put-requires c κs = search needs
@@ -36,7 +36,7 @@ begin-spec =
     slice-write-scan-2
     cast-scan
     slice-write-scan-3
-    opening-requires
+    start-state-requires
     put-requires
     same-length
     returns)

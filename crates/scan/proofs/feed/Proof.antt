@@ -1,4 +1,4 @@
--- `scan::feed` meets its contract. Its laws are in this crate's `proofs/`; `search LAW` finds a law's premises in `c`. Assumes nothing.
+-- `scan::feed` meets its contract.
 use Rattle.scan.proofs.Outcomes.{feed-refused, feed-let-in, feed-done}
 use borrow.Author.Needs.{needs}
 use Rattle.scan.proofs.feed.Statement.{statement}

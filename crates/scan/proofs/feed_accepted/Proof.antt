@@ -1,6 +1,6 @@
--- `scan::feed_accepted` meets its contract. Its laws are in this crate's `proofs/`; `search LAW` finds a law's premises in `c`. Assumes nothing.
+-- `scan::feed_accepted` meets its contract.
 use mathlib.Core.Path.{ap}
-use Rattle.scan_piece.specs.declared.State.{State}
+use Rattle.scan_piece.specs.declared.Progress.{Progress}
 use lib.ListN.{length, length-take}
 use native.Mathlib.Omega.{arith}
 use Rattle.scan.proofs.Outcomes.{held-fine, fits, feed-stored, feed-count}
@@ -35,7 +35,7 @@ feed-bytes-requires c κs =
     let h = held-fine (s .args .scan .now) (length (s .args .piece .now)) (length (s .args .ends .now)) (s .pre) (l .load .result) (l .load .ensures) in
     let f = fits (s .args .scan .now) (length (s .args .piece .now)) (length (s .args .ends .now)) (s .pre) (l .load .result) (l .load .ensures) in
     let eg = c .before .before .start .ensures in
-    (simp length-take (omega (arith, q .long)), (rw (m .masks-of .ensures) (q .top), (h, (omega (arith, f .0, ap (λ (h : State). h .count) eg), omega (arith, f .1, ap (λ (h : State). h .at) eg, ap (λ (h : State). h .count) eg)))))
+    (record { long = simp length-take (omega (arith, q .long)); top = rw (m .masks-of .ensures) (q .top) }, (h, (omega (arith, f .0, ap (λ (h : Progress). h .count) eg), omega (arith, f .1, ap (λ (h : Progress). h .at) eg, ap (λ (h : Progress). h .count) eg))))
 
 add-taken : tie.Need-add-taken
 add-taken c = let p = c .before .before .before .before .before .before .before .before .before .before .before .before .before .before .before .before .before .pre in omega (arith, p .small)

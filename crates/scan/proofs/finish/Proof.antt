@@ -1,4 +1,4 @@
--- `scan::finish` meets its contract. Its laws are in this crate's `proofs/`; `search LAW` finds a law's premises in `c`. Assumes nothing.
+-- `scan::finish` meets its contract.
 use Rattle.scan.proofs.Outcomes.{finish-refused, finish-let-in, finish-done}
 use borrow.Author.Needs.{needs}
 use Rattle.scan.proofs.finish.Statement.{statement}

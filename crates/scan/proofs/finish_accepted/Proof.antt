@@ -1,6 +1,6 @@
--- `scan::finish_accepted` meets its contract. Its laws are in this crate's `proofs/`; `search LAW` finds a law's premises in `c`. Assumes nothing.
+-- `scan::finish_accepted` meets its contract.
 use mathlib.Core.Path.{ap}
-use Rattle.scan_piece.specs.declared.State.{State}
+use Rattle.scan_piece.specs.declared.Progress.{Progress}
 use lib.ListN.{length-take}
 use native.Mathlib.Omega.{arith}
 use Rattle.scan.proofs.Outcomes.{finish-stored, finish-count}
@@ -20,26 +20,26 @@ slice-read-raw c = search needs
 start-requires : tie.Need-start-requires
 start-requires c κs = search needs
 
-slice-reshare-prefix-through : tie.Need-slice-reshare-prefix-through
-slice-reshare-prefix-through c = search needs
+slice-reshare-prefix-step-held : tie.Need-slice-reshare-prefix-step-held
+slice-reshare-prefix-step-held c = search needs
 
-slice-aggregate-through : tie.Need-slice-aggregate-through
-slice-aggregate-through c = let q = c .before .before .before .before .before .before .before .before .before .before .before .pre .possible in simp length-take (omega (arith, q .long))
+slice-aggregate-step-held : tie.Need-slice-aggregate-step-held
+slice-aggregate-step-held c = let q = c .before .before .before .before .before .before .before .before .before .before .before .pre .possible in simp length-take (omega (arith, q .long))
 
 array-share-prefix-b : tie.Need-array-share-prefix-b
 array-share-prefix-b c = search needs
 
-slice-aggregate-through-2 : tie.Need-slice-aggregate-through-2
-slice-aggregate-through-2 c = let l = c .before .before .before .before .before .before .load .ensures in simp length-take (omega (arith, l .few, l .long))
+slice-aggregate-step-held-2 : tie.Need-slice-aggregate-step-held-2
+slice-aggregate-step-held-2 c = let l = c .before .before .before .before .before .before .load .ensures in simp length-take (omega (arith, l .few, l .long))
 
-through-requires : tie.Need-through-requires
-through-requires c κs =
+step-held-requires : tie.Need-step-held-requires
+step-held-requires c κs =
     let l = c .before .before .before .before .before .before .before .load .ensures in
     let m = c .before .before .before .before .before .before .before .before .before .masks-of .ensures in
     let p = c .before .before .before .before .before .before .before .before .before .before .before .before .before .pre in
     let q = p .possible in
     let eg = c .before .before .before .before .start .ensures in
-    (simp length-take (omega (arith, q .long)), (rw m (q .top), (simp length-take (omega (arith, l .few, l .size, l .long, p .room, ap (λ (h : State). h .count) eg)), simp length-take (omega (arith, l .few, l .size, l .long, q .sum, q .raw, ap (λ (h : State). h .at) eg)))))
+    (record { long = simp length-take (omega (arith, q .long)); top = rw m (q .top) }, (simp length-take (omega (arith, l .few, l .size, l .long, p .room, ap (λ (h : Progress). h .count) eg)), simp length-take (omega (arith, l .few, l .size, l .long, q .sum, q .raw, ap (λ (h : Progress). h .at) eg))))
 
 cast-put : tie.Need-cast-put
 cast-put c = search needs
@@ -54,7 +54,7 @@ cast-count c =
     let l = c .before .before .before .before .before .before .before .before .before .before .before .before .before .before .before .before in
     let m = c .before .before .before .before .before .before .before .before .before .before .before .before .before .before .before .before .before .before in
     let s = c .before .before .before .before .before .before .before .before .before .before .before .before .before .before .before .before .before .before .before .before .before .before in
-    let q = finish-count (s .args .scan .now) (s .args .ends .now) (s .pre) (m .masks-of .result) (m .masks-of .ensures) (g .start .result) (g .start .ensures) (l .load .result) (l .load .ensures) (u .through .result) _ (u .through .ensures) in
+    let q = finish-count (s .args .scan .now) (s .args .ends .now) (s .pre) (m .masks-of .result) (m .masks-of .ensures) (g .start .result) (g .start .ensures) (l .load .result) (l .load .ensures) (u .step-held .result) _ (u .step-held .ensures) in
     omega arith
 
 same-length : tie.Need-same-length
@@ -69,7 +69,7 @@ returns c =
     let l = c .before .before .before .before .before .before .before .before .before .before .before .before .before .before .before .before in
     let m = c .before .before .before .before .before .before .before .before .before .before .before .before .before .before .before .before .before .before in
     let s = c .before .before .before .before .before .before .before .before .before .before .before .before .before .before .before .before .before .before .before .before .before .before in
-    finish-stored (s .args .scan .now) (s .args .ends .now) (s .pre) (m .masks-of .result) (m .masks-of .ensures) (c .before .before .before .before .before .before .before .before .before .before .before .before .before .start .result) (c .before .before .before .before .before .before .before .before .before .before .before .before .before .start .ensures) (l .load .result) (l .load .ensures) (t .through .result) _ (t .through .ensures) _ (c .before .before .before .put .ensures)
+    finish-stored (s .args .scan .now) (s .args .ends .now) (s .pre) (m .masks-of .result) (m .masks-of .ensures) (c .before .before .before .before .before .before .before .before .before .before .before .before .before .start .result) (c .before .before .before .before .before .before .before .before .before .before .before .before .before .start .ensures) (l .load .result) (l .load .ensures) (t .step-held .result) _ (t .step-held .ensures) _ (c .before .before .before .put .ensures)
 
 pub finish-accepted-spec : {M : Type 1} → statement M
 finish-accepted-spec =
@@ -79,11 +79,11 @@ finish-accepted-spec =
     load-requires
     slice-read-raw
     start-requires
-    slice-reshare-prefix-through
-    slice-aggregate-through
+    slice-reshare-prefix-step-held
+    slice-aggregate-step-held
     array-share-prefix-b
-    slice-aggregate-through-2
-    through-requires
+    slice-aggregate-step-held-2
+    step-held-requires
     cast-put
     put-requires
     cast-count

@@ -1,4 +1,4 @@
--- `scan::start` meets its contract. Its laws are in this crate's `proofs/`; `search LAW` finds a law's premises in `c`. Assumes nothing.
+-- `scan::start` meets its contract.
 use borrow.Author.Needs.{needs}
 use Rattle.scan.proofs.start.Statement.{statement}
 use Rattle.scan.proofs.start.Tie as tie

@@ -1,12 +1,12 @@
--- `scan_piece::feed_bytes` meets its contract. Its laws are in this crate's `proofs/`; `search LAW` finds a law's premises in `c`. Assumes nothing.
+-- `scan_piece::feed_bytes` meets its contract.
 use native.Mathlib.Omega.{arith}
-use Rattle.scan_piece.proofs.Heads.{held-few, held-fits, code-fits, fed-completed, fed-literal, fed-pending}
+use Rattle.scan_piece.proofs.HeldLaws.{held-few, held-fits, code-fits, fed-completed, fed-literal, fed-pending}
 use borrow.Author.Needs.{needs}
 use Rattle.scan_piece.proofs.feed_bytes.Statement.{statement}
 use Rattle.scan_piece.proofs.feed_bytes.Tie as tie
 
-plan-of-requires : tie.Need-plan-of-requires
-plan-of-requires c κs = search needs
+choose-requires : tie.Need-choose-requires
+choose-requires c κs = search needs
 
 resolve-held-requires : tie.Need-resolve-held-requires
 resolve-held-requires c κs = search needs
@@ -14,13 +14,13 @@ resolve-held-requires c κs = search needs
 enum-known-case : tie.Need-enum-known-case
 enum-known-case c = search needs
 
-code-through-requires : tie.Need-code-through-requires
-code-through-requires c κs =
+step-code-point-requires : tie.Need-step-code-point-requires
+step-code-point-requires c κs =
     let k = c .before .before in
     let x = k .before .before in
     let s = x .before .before .before .before .before in
     let q = code-fits (s .args .h) (s .args .piece .now) (x .resolve-held .result) (x .resolve-held .ensures) _ _ (k .case .given .1) in
-    (search needs, (search needs, (q .0, (omega (arith, q .1, q .2), (omega (arith, q .1, q .2), search needs)))))
+    (search needs, (q .0, (omega (arith, q .1, q .2), (omega (arith, q .1, q .2), search needs))))
 
 feed-rest-requires : tie.Need-feed-rest-requires
 feed-rest-requires c κs =
@@ -29,11 +29,11 @@ feed-rest-requires c κs =
     let x = k .before .before in
     let s = x .before .before .before .before .before in
     let q = code-fits (s .args .h) (s .args .piece .now) (x .resolve-held .result) (x .resolve-held .ensures) _ _ (k .case .given .1) in
-    let z = y .code-through .ensures in
+    let z = y .step-code-point .ensures in
     let few = z .few in
     let place = z .place in
     let long = z .long in
-    (search needs, (search needs, (q .2, (omega (arith, q .1, q .2), (omega (arith, q .1, q .2), search needs)))))
+    (search needs, (q .2, (omega (arith, q .1, q .2), (omega (arith, q .1, q .2), search needs))))
 
 same-length : tie.Need-same-length
 same-length c = search needs
@@ -47,21 +47,21 @@ enum-told c = search needs
 array-share-prefix-b : tie.Need-array-share-prefix-b
 array-share-prefix-b c = search held-fits
 
-slice-aggregate-run-through : tie.Need-slice-aggregate-run-through
-slice-aggregate-run-through c = search needs
+slice-aggregate-step-text : tie.Need-slice-aggregate-step-text
+slice-aggregate-step-text c = search needs
 
-run-through-requires : tie.Need-run-through-requires
-run-through-requires c κs = (search needs, (search needs, (search needs, (search needs, search needs))))
+step-text-requires : tie.Need-step-text-requires
+step-text-requires c κs = (search needs, (search needs, (search needs, search needs)))
 
 feed-rest-requires-2 : tie.Need-feed-rest-requires-2
 feed-rest-requires-2 c κs =
     let s = c .before .before .before .before .before .before .before .before .before .before .before .before .before .before in
-    let z = c .before .before .before .run-through .ensures in
+    let z = c .before .before .before .step-text .ensures in
     let few = z .few in
     let place = z .place in
     let long = z .long in
     let n = held-few (s .args .h) in
-    (search needs, (search needs, (search needs, (omega arith, (omega arith, search needs)))))
+    (search needs, (search needs, (omega arith, (omega arith, search needs))))
 
 same-length-2 : tie.Need-same-length-2
 same-length-2 c = search needs
@@ -79,17 +79,17 @@ pub feed-bytes-spec : {M : Type 1} → statement M
 feed-bytes-spec =
     tie.close
     (tie.spec
-    plan-of-requires
+    choose-requires
     resolve-held-requires
     enum-known-case
-    code-through-requires
+    step-code-point-requires
     feed-rest-requires
     same-length
     returns
     enum-told
     array-share-prefix-b
-    slice-aggregate-run-through
-    run-through-requires
+    slice-aggregate-step-text
+    step-text-requires
     feed-rest-requires-2
     same-length-2
     returns-2

@@ -1,4 +1,4 @@
--- `scan_piece::scan_rest` meets its contract. Its laws are in this crate's `proofs/`; `search LAW` finds a law's premises in `c`. Assumes nothing.
+-- `scan_piece::scan_rest` meets its contract.
 use native.Mathlib.Omega.{arith}
 use Prim.Native.Nat.{_-_}
 use lib.ListN.{length}
@@ -16,8 +16,8 @@ abbrev μ-loop : tie.MeasureT-loop
 loop-holds : tie.Need-loop-holds Inv-loop μ-loop
 loop-holds c = search resting
 
-token-requires : tie.Need-token-requires Inv-loop μ-loop
-token-requires c κs = (search needs, (search needs, (search needs, (search needs, (search needs, search needs)))))
+next-part-requires : tie.Need-next-part-requires Inv-loop μ-loop
+next-part-requires c κs = (search needs, (search needs, (search needs, (search needs, search needs))))
 
 same-length : tie.Need-same-length Inv-loop μ-loop
 same-length c = search needs
@@ -27,7 +27,7 @@ returns c = search rest-open
 
 loop-less : tie.Need-loop-less Inv-loop μ-loop
 loop-less c =
-    let x = c .before .before .before .before .token .ensures in
+    let x = c .before .before .before .before .next-part .ensures in
     let m = x .moves (c .if1 .left) in
     omega (arith, x .fits)
 
@@ -47,7 +47,7 @@ scan-rest-spec =
     Inv-loop
     μ-loop
     loop-holds
-    token-requires
+    next-part-requires
     same-length
     returns
     loop-less

@@ -1,4 +1,4 @@
--- `scan_value::bytes_fit` meets its contract. Its laws are in this crate's `proofs/`; `search LAW` finds a law's premises in `c`. Assumes nothing.
+-- `scan_value::bytes_fit` meets its contract.
 use Prim.Native.Nat.{_-_}
 use Rattle.scan_value.proofs.Checks.{Fitting, fitting, not-fit, fit-turn, all-fit}
 use borrow.Author.Needs.{needs}

@@ -1,4 +1,4 @@
--- `scan_value::held_word` meets its contract. Its laws are in this crate's `proofs/`; `search LAW` finds a law's premises in `c`. Assumes nothing.
+-- `scan_value::held_word` meets its contract.
 use Rattle.scan_value.proofs.Fields.{word-in, word-past}
 use borrow.Author.Needs.{needs}
 use Rattle.scan_value.proofs.held_word.Statement.{statement}

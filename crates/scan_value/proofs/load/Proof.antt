@@ -1,4 +1,4 @@
--- `scan_value::load` meets its contract. Its laws are in this crate's `proofs/`; `search LAW` finds a law's premises in `c`. Assumes nothing.
+-- `scan_value::load` meets its contract.
 use native.Mathlib.Omega.{arith}
 use Prim.Native.Nat.{_-_}
 use Rattle.scan_value.proofs.Fields.{Loading, loading, load-turn, loaded}
@@ -31,7 +31,7 @@ cast-t : tie.Need-cast-t Inv-loop μ-loop
 cast-t c =
     let f = c .before .before .before .before .pre in
     let h = c .before .loop-test .taken in
-    let b = f .bytes (c .before .before .loop .j) (omega (arith, f .nine)) in
+    let b = f .bytes (c .before .before .loop .j) (omega (arith, f .few)) in
     omega arith
 
 array-write-t : tie.Need-array-write-t Inv-loop μ-loop

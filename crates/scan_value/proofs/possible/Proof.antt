@@ -1,4 +1,4 @@
--- `scan_value::possible` meets its contract. Its laws are in this crate's `proofs/`; `search LAW` finds a law's premises in `c`. Assumes nothing.
+-- `scan_value::possible` meets its contract.
 use Rattle.scan_value.proofs.Checks.{length-wrong, no-position, positions-over, finished-over, raw-over, decoded-over, held-over, counts-over, can-load, by-tail, bytes-over}
 use borrow.Author.Needs.{needs}
 use Rattle.scan_value.proofs.possible.Statement.{statement}

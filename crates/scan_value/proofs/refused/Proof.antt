@@ -1,4 +1,4 @@
--- `scan_value::refused` meets its contract. Its laws are in this crate's `proofs/`; `search LAW` finds a law's premises in `c`. Assumes nothing.
+-- `scan_value::refused` meets its contract.
 use native.Mathlib.Omega.{arith}
 use Rattle.scan_value.proofs.Checks.{refused-12, refused-10, refused-9, refused-0, refused-11}
 use borrow.Author.Needs.{needs}

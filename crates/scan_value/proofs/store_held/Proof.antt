@@ -1,4 +1,4 @@
--- `scan_value::store_held` meets its contract. Its laws are in this crate's `proofs/`; `search LAW` finds a law's premises in `c`. Assumes nothing.
+-- `scan_value::store_held` meets its contract.
 use Prim.Native.Nat.{_-_}
 use Rattle.piece_decoder.specs.Held.{heldOf}
 use Rattle.scan_value.proofs.Fields.{Storing, storing, store-turn, stored}

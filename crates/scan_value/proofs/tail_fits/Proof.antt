@@ -1,4 +1,4 @@
--- `scan_value::tail_fits` meets its contract. Its laws are in this crate's `proofs/`; `search LAW` finds a law's premises in `c`. Assumes nothing.
+-- `scan_value::tail_fits` meets its contract.
 use native.Mathlib.Omega.{arith}
 use lib.ListN.{length-take}
 use Rattle.scan_value.proofs.Checks.{tail-none, tail-decoded, tail-literal, tail-incomplete}

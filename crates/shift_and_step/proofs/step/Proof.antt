@@ -1,4 +1,4 @@
--- `shift_and_step::step` meets its contract. Its laws are in this crate's `proofs/`; `search LAW` finds a law's premises in `c`. Assumes nothing.
+-- `shift_and_step::step` meets its contract.
 use Rattle.shift_and_step.specs.Stepping.{stepN}
 use Rattle.shift_and_step.proofs.Steps.{step-none}
 use borrow.Author.Needs.{needs}

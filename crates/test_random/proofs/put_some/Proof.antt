@@ -1,4 +1,4 @@
--- `test_random::put_some` is safe, and keeps what its contract promises. Assumes nothing.
+-- `test_random::put_some` is safe, and keeps what its contract promises.
 use mathlib.Core.Path.{_≡_}
 use lib.ListN.{length}
 use borrow.Author.Needs.{needs}

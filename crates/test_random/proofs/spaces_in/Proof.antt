@@ -1,4 +1,4 @@
--- `test_random::spaces_in` is safe, and keeps what its contract promises. Assumes nothing.
+-- `test_random::spaces_in` is safe, and keeps what its contract promises.
 use native.Mathlib.Omega.{arith}
 use mathlib.Core.Logic.{⊎-elim}
 use Prim.Native.Nat.{_-_, _≤_}

@@ -1,4 +1,4 @@
--- `test_random::up_to` is safe, and keeps what its contract promises. Assumes nothing.
+-- `test_random::up_to` is safe, and keeps what its contract promises.
 use Prim.Native.Nat.{ℕ, _+_, _≤_, _<_, _%_}
 use native.Mathlib.Nat.{mod-lt}
 use native.Mathlib.Omega.{arith}

@@ -1,4 +1,4 @@
--- `window_reader::count_back` meets its contract. Its laws are in this crate's `proofs/`; `search LAW` finds a law's premises in `c`. Assumes nothing.
+-- `window_reader::count_back` meets its contract.
 use Rattle.window_reader.proofs.BackLaws.{Counting, count-begun, counted, count-passed, count-over}
 use borrow.Author.Needs.{needs}
 use Rattle.window_reader.proofs.count_back.Statement.{statement}
@@ -10,8 +10,8 @@ Inv-loop reversed m text from d₀ k₀ j₀ d k j = Counting reversed m text fr
 abbrev μ-loop : tie.MeasureT-loop
 μ-loop reversed m text from d₀ k₀ j₀ d k j = j
 
-opening-requires : tie.Need-opening-requires Inv-loop μ-loop
-opening-requires c κs = search needs
+start-state-requires : tie.Need-start-state-requires Inv-loop μ-loop
+start-state-requires c κs = search needs
 
 loop-holds : tie.Need-loop-holds Inv-loop μ-loop
 loop-holds c = search count-begun
@@ -19,11 +19,11 @@ loop-holds c = search count-begun
 sub-j : tie.Need-sub-j Inv-loop μ-loop
 sub-j c = search needs
 
-shared-slice-read-index : tie.Need-shared-slice-read-index Inv-loop μ-loop
-shared-slice-read-index c = search needs
+shared-slice-read-byte-index : tie.Need-shared-slice-read-byte-index Inv-loop μ-loop
+shared-slice-read-byte-index c = search needs
 
-index-requires : tie.Need-index-requires Inv-loop μ-loop
-index-requires c κs = search needs
+byte-index-requires : tie.Need-byte-index-requires Inv-loop μ-loop
+byte-index-requires c κs = search needs
 
 mul-step : tie.Need-mul-step Inv-loop μ-loop
 mul-step c = search needs
@@ -34,8 +34,8 @@ shared-slice-read-step c = search needs
 step-requires : tie.Need-step-requires Inv-loop μ-loop
 step-requires c κs = search needs
 
-reports-requires : tie.Need-reports-requires Inv-loop μ-loop
-reports-requires c κs = search needs
+accepts-requires : tie.Need-accepts-requires Inv-loop μ-loop
+accepts-requires c κs = search needs
 
 add-k : tie.Need-add-k Inv-loop μ-loop
 add-k c = search needs
@@ -61,15 +61,15 @@ count-back-spec =
     (tie.spec
     Inv-loop
     μ-loop
-    opening-requires
+    start-state-requires
     loop-holds
     sub-j
-    shared-slice-read-index
-    index-requires
+    shared-slice-read-byte-index
+    byte-index-requires
     mul-step
     shared-slice-read-step
     step-requires
-    reports-requires
+    accepts-requires
     add-k
     loop-less
     loop-again

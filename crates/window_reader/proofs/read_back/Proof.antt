@@ -1,12 +1,12 @@
--- `window_reader::read_back` meets its contract. Its laws are in this crate's `proofs/`; `search LAW` finds a law's premises in `c`. Assumes nothing.
-use Rattle.window_reader.specs.Reading.{Looking}
+-- `window_reader::read_back` meets its contract.
+use Rattle.window_reader.specs.Reading.{Unread}
 use Rattle.window_reader.proofs.WindowLaws.{look-emptied, look-begins, look-passed, look-over}
 use borrow.Author.Needs.{needs}
 use Rattle.window_reader.proofs.read_back.Statement.{statement}
 use Rattle.window_reader.proofs.read_back.Tie as tie
 
 abbrev Inv-loop : tie.InvT-loop
-Inv-loop reversed m size text w d₁ last₁ j₁ d₀ last₀ j₀ d last j = Looking reversed m size text w d last j
+Inv-loop reversed m size text w d₁ last₁ j₁ d₀ last₀ j₀ d last j = Unread reversed m size text w d last j
 
 abbrev μ-loop : tie.MeasureT-loop
 μ-loop reversed m size text w d₁ last₁ j₁ d₀ last₀ j₀ d last j = j
@@ -14,14 +14,14 @@ abbrev μ-loop : tie.MeasureT-loop
 loop-holds : tie.Need-loop-holds Inv-loop μ-loop
 loop-holds c = search needs
 
-add-index : tie.Need-add-index Inv-loop μ-loop
-add-index c = search needs
+add-byte-index : tie.Need-add-byte-index Inv-loop μ-loop
+add-byte-index c = search needs
 
-shared-slice-read-index : tie.Need-shared-slice-read-index Inv-loop μ-loop
-shared-slice-read-index c = search needs
+shared-slice-read-byte-index : tie.Need-shared-slice-read-byte-index Inv-loop μ-loop
+shared-slice-read-byte-index c = search needs
 
-index-requires : tie.Need-index-requires Inv-loop μ-loop
-index-requires c κs = search needs
+byte-index-requires : tie.Need-byte-index-requires Inv-loop μ-loop
+byte-index-requires c κs = search needs
 
 mul-step : tie.Need-mul-step Inv-loop μ-loop
 mul-step c = search needs
@@ -38,8 +38,8 @@ returns c = search look-emptied
 sub-j : tie.Need-sub-j Inv-loop μ-loop
 sub-j c = search needs
 
-reports-requires : tie.Need-reports-requires Inv-loop μ-loop
-reports-requires c κs = search needs
+accepts-requires : tie.Need-accepts-requires Inv-loop μ-loop
+accepts-requires c κs = search needs
 
 loop-less : tie.Need-loop-less Inv-loop μ-loop
 loop-less c = search needs
@@ -53,11 +53,11 @@ loop-less-2 c = search needs
 loop-again-2 : tie.Need-loop-again-2 Inv-loop μ-loop
 loop-again-2 c = search look-passed
 
-shared-slice-read-index-2 : tie.Need-shared-slice-read-index-2 Inv-loop μ-loop
-shared-slice-read-index-2 c = search needs
+shared-slice-read-byte-index-2 : tie.Need-shared-slice-read-byte-index-2 Inv-loop μ-loop
+shared-slice-read-byte-index-2 c = search needs
 
-index-requires-2 : tie.Need-index-requires-2 Inv-loop μ-loop
-index-requires-2 c κs = search needs
+byte-index-requires-2 : tie.Need-byte-index-requires-2 Inv-loop μ-loop
+byte-index-requires-2 c κs = search needs
 
 mul-step-2 : tie.Need-mul-step-2 Inv-loop μ-loop
 mul-step-2 c = search needs
@@ -68,8 +68,8 @@ shared-slice-read-step-2 c = search needs
 step-requires-2 : tie.Need-step-requires-2 Inv-loop μ-loop
 step-requires-2 c κs = search needs
 
-reports-requires-2 : tie.Need-reports-requires-2 Inv-loop μ-loop
-reports-requires-2 c κs = search needs
+accepts-requires-2 : tie.Need-accepts-requires-2 Inv-loop μ-loop
+accepts-requires-2 c κs = search needs
 
 returns-2 : tie.Need-returns-2 Inv-loop μ-loop
 returns-2 c = search look-over
@@ -81,23 +81,23 @@ read-back-spec =
     Inv-loop
     μ-loop
     loop-holds
-    add-index
-    shared-slice-read-index
-    index-requires
+    add-byte-index
+    shared-slice-read-byte-index
+    byte-index-requires
     mul-step
     shared-slice-read-step
     step-requires
     returns
     sub-j
-    reports-requires
+    accepts-requires
     loop-less
     loop-again
     loop-less-2
     loop-again-2
-    shared-slice-read-index-2
-    index-requires-2
+    shared-slice-read-byte-index-2
+    byte-index-requires-2
     mul-step-2
     shared-slice-read-step-2
     step-requires-2
-    reports-requires-2
+    accepts-requires-2
     returns-2)

@@ -1,4 +1,4 @@
--- `window_reader::verify` meets its contract. Its laws are in this crate's `proofs/`; `search LAW` finds a law's premises in `c`. Assumes nothing.
+-- `window_reader::verify` meets its contract.
 use Prim.Native.Nat.{_-_}
 use Rattle.window_reader.proofs.VerifyLaws.{Verifying, verify-begun, verify-died, verify-ended, verify-passed, verify-over}
 use borrow.Author.Needs.{needs}
@@ -11,17 +11,17 @@ Inv-loop forward m text s stop d₀ e₀ d e = Verifying forward m text s stop d
 abbrev μ-loop : tie.MeasureT-loop
 μ-loop forward m text s stop d₀ e₀ d e = stop - e
 
-opening-requires : tie.Need-opening-requires Inv-loop μ-loop
-opening-requires c κs = search needs
+start-state-requires : tie.Need-start-state-requires Inv-loop μ-loop
+start-state-requires c κs = search needs
 
 loop-holds : tie.Need-loop-holds Inv-loop μ-loop
 loop-holds c = search verify-begun
 
-shared-slice-read-index : tie.Need-shared-slice-read-index Inv-loop μ-loop
-shared-slice-read-index c = search needs
+shared-slice-read-byte-index : tie.Need-shared-slice-read-byte-index Inv-loop μ-loop
+shared-slice-read-byte-index c = search needs
 
-index-requires : tie.Need-index-requires Inv-loop μ-loop
-index-requires c κs = search needs
+byte-index-requires : tie.Need-byte-index-requires Inv-loop μ-loop
+byte-index-requires c κs = search needs
 
 mul-step : tie.Need-mul-step Inv-loop μ-loop
 mul-step c = search needs
@@ -38,8 +38,8 @@ add-e c = search needs
 returns : tie.Need-returns Inv-loop μ-loop
 returns c = search verify-died
 
-reports-requires : tie.Need-reports-requires Inv-loop μ-loop
-reports-requires c κs = search needs
+accepts-requires : tie.Need-accepts-requires Inv-loop μ-loop
+accepts-requires c κs = search needs
 
 returns-2 : tie.Need-returns-2 Inv-loop μ-loop
 returns-2 c = search verify-ended
@@ -59,16 +59,16 @@ verify-spec =
     (tie.spec
     Inv-loop
     μ-loop
-    opening-requires
+    start-state-requires
     loop-holds
-    shared-slice-read-index
-    index-requires
+    shared-slice-read-byte-index
+    byte-index-requires
     mul-step
     shared-slice-read-step
     step-requires
     add-e
     returns
-    reports-requires
+    accepts-requires
     returns-2
     loop-less
     loop-again

@@ -1,4 +1,4 @@
--- `window_reader::window_shift` meets its contract. Its laws are in this crate's `proofs/`; `search LAW` finds a law's premises in `c`. Assumes nothing.
+-- `window_reader::window_shift` meets its contract.
 use Rattle.window_reader.proofs.WindowLaws.{first-alone, first-emptied, first-begins, first-passed}
 use borrow.Author.Needs.{needs}
 use Rattle.window_reader.proofs.window_shift.Statement.{statement}
@@ -7,14 +7,14 @@ use Rattle.window_reader.proofs.window_shift.Tie as tie
 sub-j : tie.Need-sub-j
 sub-j c = search needs
 
-add-index : tie.Need-add-index
-add-index c = search needs
+add-byte-index : tie.Need-add-byte-index
+add-byte-index c = search needs
 
-shared-slice-read-index : tie.Need-shared-slice-read-index
-shared-slice-read-index c = search needs
+shared-slice-read-byte-index : tie.Need-shared-slice-read-byte-index
+shared-slice-read-byte-index c = search needs
 
-index-requires : tie.Need-index-requires
-index-requires c κs = search needs
+byte-index-requires : tie.Need-byte-index-requires
+byte-index-requires c κs = search needs
 
 mul-d : tie.Need-mul-d
 mul-d c = search needs
@@ -22,8 +22,8 @@ mul-d c = search needs
 shared-slice-read-d : tie.Need-shared-slice-read-d
 shared-slice-read-d c = search needs
 
-reports-requires : tie.Need-reports-requires
-reports-requires c κs = search needs
+accepts-requires : tie.Need-accepts-requires
+accepts-requires c κs = search needs
 
 returns : tie.Need-returns
 returns c = search first-alone
@@ -51,12 +51,12 @@ window-shift-spec =
     tie.close
     (tie.spec
     sub-j
-    add-index
-    shared-slice-read-index
-    index-requires
+    add-byte-index
+    shared-slice-read-byte-index
+    byte-index-requires
     mul-d
     shared-slice-read-d
-    reports-requires
+    accepts-requires
     returns
     returns-2
     sub-next

@@ -1,4 +1,4 @@
--- `window_reader::write_back` meets its contract. Its laws are in this crate's `proofs/`; `search LAW` finds a law's premises in `c`. Assumes nothing.
+-- `window_reader::write_back` meets its contract.
 use Rattle.window_reader.proofs.BackLaws.{Writing, write-begun, more-place, more-within, above, inside, more-less, wrote, write-passed, write-over}
 use borrow.Author.Needs.{needs}
 use Rattle.window_reader.proofs.write_back.Statement.{statement}
@@ -10,8 +10,8 @@ Inv-loop reversed m text from starts₀ first k d₀ p₀ j₀ starts d p j = Wr
 abbrev μ-loop : tie.MeasureT-loop
 μ-loop reversed m text from starts₀ first k d₀ p₀ j₀ starts d p j = j
 
-opening-requires : tie.Need-opening-requires Inv-loop μ-loop
-opening-requires c κs = search needs
+start-state-requires : tie.Need-start-state-requires Inv-loop μ-loop
+start-state-requires c κs = search needs
 
 add-p : tie.Need-add-p Inv-loop μ-loop
 add-p c = search needs
@@ -22,11 +22,11 @@ loop-holds c = search write-begun
 sub-j : tie.Need-sub-j Inv-loop μ-loop
 sub-j c = search more-place
 
-shared-slice-read-index : tie.Need-shared-slice-read-index Inv-loop μ-loop
-shared-slice-read-index c = search more-within
+shared-slice-read-byte-index : tie.Need-shared-slice-read-byte-index Inv-loop μ-loop
+shared-slice-read-byte-index c = search more-within
 
-index-requires : tie.Need-index-requires Inv-loop μ-loop
-index-requires c κs = search needs
+byte-index-requires : tie.Need-byte-index-requires Inv-loop μ-loop
+byte-index-requires c κs = search needs
 
 mul-step : tie.Need-mul-step Inv-loop μ-loop
 mul-step c = search needs
@@ -37,8 +37,8 @@ shared-slice-read-step c = search needs
 step-requires : tie.Need-step-requires Inv-loop μ-loop
 step-requires c κs = search needs
 
-reports-requires : tie.Need-reports-requires Inv-loop μ-loop
-reports-requires c κs = search needs
+accepts-requires : tie.Need-accepts-requires Inv-loop μ-loop
+accepts-requires c κs = search needs
 
 sub-p : tie.Need-sub-p Inv-loop μ-loop
 sub-p c = search above
@@ -76,16 +76,16 @@ write-back-spec =
     (tie.spec
     Inv-loop
     μ-loop
-    opening-requires
+    start-state-requires
     add-p
     loop-holds
     sub-j
-    shared-slice-read-index
-    index-requires
+    shared-slice-read-byte-index
+    byte-index-requires
     mul-step
     shared-slice-read-step
     step-requires
-    reports-requires
+    accepts-requires
     sub-p
     cast-starts
     mul-starts

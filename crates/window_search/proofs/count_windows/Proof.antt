@@ -1,4 +1,4 @@
--- `window_search::count_windows` meets its contract. Its laws are in this crate's `proofs/`; `search LAW` finds a law's premises in `c`. Assumes nothing.
+-- `window_search::count_windows` meets its contract.
 use Prim.Native.Nat.{_-_}
 use lib.ListN.{length}
 use Rattle.window_search.proofs.Searches.{Trying, try-begun, try-quick, try-turn, try-over}
@@ -18,8 +18,8 @@ loop-holds c = search try-begun
 add-if1 : tie.Need-add-if1 Inv-loop μ-loop
 add-if1 c = search needs
 
-is-unknown-requires : tie.Need-is-unknown-requires Inv-loop μ-loop
-is-unknown-requires c κs = search needs
+last-byte-absent-requires : tie.Need-last-byte-absent-requires Inv-loop μ-loop
+last-byte-absent-requires c κs = search needs
 
 add-w : tie.Need-add-w Inv-loop μ-loop
 add-w c = search needs
@@ -59,7 +59,7 @@ count-windows-spec =
     μ-loop
     loop-holds
     add-if1
-    is-unknown-requires
+    last-byte-absent-requires
     add-w
     add-k
     loop-less

@@ -1,4 +1,4 @@
--- `window_search::part_from` meets its contract. Its laws are in this crate's `proofs/`; `search LAW` finds a law's premises in `c`. Assumes nothing.
+-- `window_search::part_from` meets its contract.
 use Rattle.window_search.proofs.Shows.{shown-at, shown-dead, shown-open}
 use borrow.Author.Needs.{needs}
 use Rattle.window_search.proofs.part_from.Statement.{statement}

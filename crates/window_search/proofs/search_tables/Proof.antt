@@ -1,11 +1,11 @@
--- `window_search::search_tables` meets its contract. Its laws are in this crate's `proofs/`; `search LAW` finds a law's premises in `c`. Assumes nothing.
+-- `window_search::search_tables` meets its contract.
 use Rattle.window_search.proofs.Searches.{rest-fits, finished}
 use borrow.Author.Needs.{needs}
 use Rattle.window_search.proofs.search_tables.Statement.{statement}
 use Rattle.window_search.proofs.search_tables.Tie as tie
 
-verified-requires : tie.Need-verified-requires
-verified-requires c κs = search needs
+verify-windows-requires : tie.Need-verify-windows-requires
+verify-windows-requires c κs = search needs
 
 write-rest-requires : tie.Need-write-rest-requires
 write-rest-requires c κs = (search needs, search rest-fits)
@@ -29,7 +29,7 @@ pub search-tables-spec : {M : Type 1} → statement M
 search-tables-spec =
     tie.close
     (tie.spec
-    verified-requires
+    verify-windows-requires
     write-rest-requires
     count-windows-requires
     add-count

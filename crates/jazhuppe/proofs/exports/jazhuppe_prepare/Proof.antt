@@ -1,4 +1,4 @@
--- `jazhuppe::exports::jazhuppe_prepare` meets its contract. Its laws are in this crate's `proofs/`; `search LAW` finds a law's premises in `c`. Assumes nothing.
+-- `jazhuppe::exports::jazhuppe_prepare` meets its contract.
 use Rattle.jazhuppe.proofs.Parts.{prepare-answers}
 use borrow.Author.Needs.{needs}
 use Rattle.jazhuppe.proofs.exports.jazhuppe_prepare.Statement.{statement}

@@ -1,4 +1,4 @@
--- `oracle::positions::put_position` is safe, and keeps what its contract promises. Assumes nothing.
+-- `oracle::positions::put_position` is safe, and keeps what its contract promises.
 use mathlib.Core.Path.{_≡_}
 use Prim.Native.Nat.{_-_}
 use lib.ListN.{length}

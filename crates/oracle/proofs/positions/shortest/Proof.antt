@@ -1,4 +1,4 @@
--- `oracle::positions::shortest` is safe, and keeps what its contract promises. Assumes nothing.
+-- `oracle::positions::shortest` is safe, and keeps what its contract promises.
 use native.Mathlib.Omega.{arith}
 use mathlib.Core.Logic.{⊎-elim}
 use Prim.Native.Nat.{_-_, _≤_}

@@ -1,4 +1,4 @@
--- `oracle::reference::held` is safe, and keeps what its contract promises. Assumes nothing.
+-- `oracle::reference::held` is safe, and keeps what its contract promises.
 use Prim.Native.Nat.{_≤_}
 use borrow.Author.Needs.{needs}
 use Rattle.oracle.proofs.reference.held.Statement.{statement}

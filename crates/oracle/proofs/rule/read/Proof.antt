@@ -1,4 +1,4 @@
--- `oracle::rule::read` is safe, and keeps what its contract promises. Assumes nothing.
+-- `oracle::rule::read` is safe, and keeps what its contract promises.
 use borrow.Author.Needs.{needs}
 use Rattle.oracle.proofs.rule.read.Statement.{statement}
 use Rattle.oracle.proofs.rule.read.Tie as tie

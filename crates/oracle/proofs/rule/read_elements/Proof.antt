@@ -1,4 +1,4 @@
--- `oracle::rule::read_elements` is safe, and keeps what its contract promises. Assumes nothing.
+-- `oracle::rule::read_elements` is safe, and keeps what its contract promises.
 use mathlib.Core.Path.{_≡_}
 use Prim.Native.Nat.{_-_, _≤_}
 use lib.ListN.{length}

@@ -1,4 +1,4 @@
--- `oracle::shares::first_marked` is safe, and keeps what its contract promises. Assumes nothing.
+-- `oracle::shares::first_marked` is safe, and keeps what its contract promises.
 use Prim.Native.Nat.{_-_}
 use lib.ListN.{length}
 use borrow.Author.Needs.{needs}

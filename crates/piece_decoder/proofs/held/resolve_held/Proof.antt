@@ -1,4 +1,4 @@
--- `piece_decoder::held::resolve_held` meets its contract. Its laws are in this crate's `proofs/`; `search LAW` finds a law's premises in `c`. Assumes nothing.
+-- `piece_decoder::held::resolve_held` meets its contract.
 use Rattle.piece_decoder.proofs.Crossings.{resolved-moves, resolved-completed, resolved-literal, resolved-pending}
 use borrow.Author.Needs.{needs}
 use Rattle.piece_decoder.proofs.held.resolve_held.Statement.{statement}

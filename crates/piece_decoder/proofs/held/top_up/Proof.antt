@@ -1,4 +1,4 @@
--- `piece_decoder::held::top_up` meets its contract. Its laws are in this crate's `proofs/`; `search LAW` finds a law's premises in `c`. Assumes nothing.
+-- `piece_decoder::held::top_up` meets its contract.
 use mathlib.Core.Path.{_≡_}
 use Rattle.piece_decoder.proofs.Crossings.{Topping, topping, topped-short, topped-full, top-up-turn}
 use Rattle.model.specs.References.{formLimit}

@@ -1,4 +1,4 @@
--- `test_compare::calls/same_list` is safe, and keeps what its contract promises. Assumes nothing.
+-- `test_compare::calls::same_list` is safe, and keeps what its contract promises.
 use Prim.Native.Nat.{_-_}
 use lib.ListN.{length}
 use borrow.Author.Needs.{needs}

@@ -1,4 +1,4 @@
--- `test_io::lines::number_at` is safe, and keeps what its contract promises. Assumes nothing.
+-- `test_io::lines::number_at` is safe, and keeps what its contract promises.
 use Prim.Native.Nat.{_-_, _≤_}
 use lib.ListN.{length}
 use borrow.Author.Needs.{needs}

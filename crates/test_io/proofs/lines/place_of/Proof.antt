@@ -1,4 +1,4 @@
--- `test_io::lines::place_of` is safe, and keeps what its contract promises. Assumes nothing.
+-- `test_io::lines::place_of` is safe, and keeps what its contract promises.
 use Prim.Native.Nat.{_-_}
 use lib.ListN.{length}
 use Rattle.test_io.specs.Places.{Between}

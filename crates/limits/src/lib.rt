@@ -1,0 +1,17 @@
+// The limits of document 01, each under one name; `model` has the same (`ruleLimit` and so on), and the
+// header for a host. No code.
+
+// "A rule is 1 to 255 bytes".
+pub const RULE_LIMIT: usize = 255;
+
+// "A rule has at most 63" positions.
+pub const POSITION_LIMIT: u32 = 63;
+
+// "at most 10 bytes from `&` to `;`".
+pub const FORM_LIMIT: usize = 10;
+
+// "at most 9 bytes" are held back between pieces: one less than a form has.
+pub const HELD_MOST: usize = FORM_LIMIT - 1;
+
+// "more than 4,294,967,295 bytes in the text, or in all the pieces" are refused.
+pub const TEXT_LIMIT: usize = 4_294_967_295;

@@ -1,0 +1,100 @@
+-- `shift_and_dense::loop_branchless` meets its contract.
+use Prim.Native.Nat.{_-_}
+use Rattle.shift_and_loop.proofs.LoopLaws.{LoopInvariant, set-out, loop-over}
+use Rattle.shift_and_dense.proofs.BranchlessLaws.{loop-dense}
+use borrow.Author.Needs.{needs}
+use Rattle.shift_and_dense.proofs.loop_branchless.Statement.{statement}
+use Rattle.shift_and_dense.proofs.loop_branchless.Tie as tie
+
+abbrev Inv-loop : tie.InvT-loop
+Inv-loop table m q until text ends₀ s d₀ n₀ i₀ ends d n i = LoopInvariant table m until text ends₀ s ends d n i
+
+abbrev μ-loop : tie.MeasureT-loop
+μ-loop table m q until text ends₀ s d₀ n₀ i₀ ends d n i = until - i
+
+loop-holds : tie.Need-loop-holds Inv-loop μ-loop
+loop-holds c = search set-out
+
+shared-slice-read-byte-index : tie.Need-shared-slice-read-byte-index Inv-loop μ-loop
+shared-slice-read-byte-index c = search needs
+
+byte-index-requires : tie.Need-byte-index-requires Inv-loop μ-loop
+byte-index-requires c κs = search needs
+
+mul-step-closure-separated : tie.Need-mul-step-closure-separated Inv-loop μ-loop
+mul-step-closure-separated c = search needs
+
+shared-slice-read-step-closure-separated : tie.Need-shared-slice-read-step-closure-separated Inv-loop μ-loop
+shared-slice-read-step-closure-separated c = search needs
+
+step-closure-separated-requires : tie.Need-step-closure-separated-requires Inv-loop μ-loop
+step-closure-separated-requires c κs = search needs
+
+add-i : tie.Need-add-i Inv-loop μ-loop
+add-i c = search needs
+
+accept-bit-requires : tie.Need-accept-bit-requires Inv-loop μ-loop
+accept-bit-requires c κs = search needs
+
+count-before-requires : tie.Need-count-before-requires Inv-loop μ-loop
+count-before-requires c κs = search needs
+
+mul-select : tie.Need-mul-select Inv-loop μ-loop
+mul-select c = search needs
+
+slice-read-select : tie.Need-slice-read-select Inv-loop μ-loop
+slice-read-select c = search needs
+
+select-requires : tie.Need-select-requires Inv-loop μ-loop
+select-requires c κs = search needs
+
+mul-ends : tie.Need-mul-ends Inv-loop μ-loop
+mul-ends c = search needs
+
+slice-write-ends : tie.Need-slice-write-ends Inv-loop μ-loop
+slice-write-ends c = search needs
+
+add-n : tie.Need-add-n Inv-loop μ-loop
+add-n c = search needs
+
+loop-less : tie.Need-loop-less Inv-loop μ-loop
+loop-less c = search needs
+
+loop-again : tie.Need-loop-again Inv-loop μ-loop
+loop-again c = search loop-dense
+
+count-before-requires-2 : tie.Need-count-before-requires-2 Inv-loop μ-loop
+count-before-requires-2 c κs = search needs
+
+same-length : tie.Need-same-length Inv-loop μ-loop
+same-length c = search needs
+
+returns : tie.Need-returns Inv-loop μ-loop
+returns c = search loop-over
+
+pub loop-branchless-spec : {M : Type 1} → statement M
+loop-branchless-spec =
+    tie.close
+    (tie.spec
+    Inv-loop
+    μ-loop
+    loop-holds
+    shared-slice-read-byte-index
+    byte-index-requires
+    mul-step-closure-separated
+    shared-slice-read-step-closure-separated
+    step-closure-separated-requires
+    add-i
+    accept-bit-requires
+    count-before-requires
+    mul-select
+    slice-read-select
+    select-requires
+    mul-ends
+    slice-write-ends
+    add-n
+    loop-less
+    loop-again
+    count-before-requires-2
+    same-length
+    returns)
