@@ -86,9 +86,9 @@ shown-bytes {flag} {rule} {text} {s} {y} i =
     let e : y .from + (y .to - y .from) ≡ y .to = omega arith in
     take-drop (y .to - y .from) (y .from) text ∙ ap (λ (k : ℕ). drop (y .from) (take k text)) e ∙ ap (λ (y : Span). stretch text (y .from) (y .to)) (i .is)
 
-pub shows-part : {flag : ℕ} {rule text : List ℕ} {s : ℕ} {y : Span} (lies : ℕ × ℕ) → ShownIs flag rule text s y
+pub shows-part : {flag : ℕ} {rule text : List ℕ} {s : ℕ} {lies : ℕ × ℕ} {y : Span} → ShownIs flag rule text s y
     → ShowsPart flag rule text lies s (take (y .to - y .from) (drop (y .from) text)) (lies .0, y .from + lies .1)
-shows-part {flag = flag} {rule = rule} {text = text} {s = s} {y = y} lies i = record {
+shows-part {flag = flag} {rule = rule} {text = text} {s = s} {lies = lies} {y = y} i = record {
   bytes = shown-bytes {flag = flag} {rule = rule} {text = text} {s = s} {y = y} i;
   place = ap (λ (y : Span). (lies .0, y .from + lies .1)) (i .is);
 }

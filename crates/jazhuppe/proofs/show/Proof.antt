@@ -17,7 +17,7 @@ part-result-end : tie.Need-part-result-end
 part-result-end c = search needs
 
 returns : tie.Need-returns
-returns c = shows-part (c .before .before .before .before .args .text .ptr) (c .before .span .ensures)
+returns c = search shows-part
 
 pub show-spec : {M : Type 1} → statement M
 show-spec = tie.close (tie.spec span-requires sub-result part-result-start part-result-end returns)
