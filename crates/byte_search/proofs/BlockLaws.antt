@@ -12,7 +12,7 @@ use borrow.Author.Tests.{eq-eqb, ne-eqb}
 use Rattle.model.proofs.Truth.{or-false-left, or-false-right}
 use Rattle.byte_search.specs.BlockTests.{BlockTested, NoneBefore, LaneOrEnd, BlockStart, meets, same}
 
--- a look so far: j places of k
+-- a block so far: j places of k
 pub record Testing (f : ℕ → Bool) (i k : ℕ) (z : Bool) (j : ℕ) : Type 0 where
   pub few : j ≤ k
   pub look : BlockTested f i j z
@@ -44,7 +44,7 @@ miss-look f i₀ end i at k r g a b h e l = record { fore = omega (arith, g .for
     go j p q (yes s) = g .none j p s
     go j p q (no s) = let e′ : at + (j - at) ≡ j = omega arith in rw e′ at (l .none e (j - at) (omega arith))
 
--- the next look of 64
+-- the next block of 64
 pub miss-next : (f : ℕ → Bool) (i₀ end i at : ℕ) (r : Bool) → NoneBefore f i₀ end i → 64 ≤ end → BlockStart i (end - 64) at → r ≡ false → BlockTested f at 64 r → NoneBefore f i₀ end (at + 64)
 miss-next f i₀ end i at r g h w e l = let a = w .back in let b = w .within in let c = w .reaches in miss-look f i₀ end i at 64 r g a (omega arith) (omega arith) e l
 
@@ -67,7 +67,7 @@ miss-join f i₀ end i r g h = record { fore = omega arith; within = h .within; 
     go j p q (yes s) = g .none j p s
     go j p q (no s) = h .none j (omega arith) q
 
--- by the first place of a look, at once, after others, and before others
+-- by the first place of a block, at once, after others, and before others
 pub miss-first : (f : ℕ → Bool) (i end r : ℕ) → 64 ≤ end - i → NoneBefore f i (i + 64) r → NoneBefore f i end r
 miss-first f i end r h g = record { fore = g .fore; within = omega (arith, g .within); none = g .none }
 
@@ -77,7 +77,7 @@ miss-then-first f i₀ end i r m h g = miss-join f i₀ end i r m (miss-first f 
 pub miss-first-then : (f : ℕ → Bool) (i end j r : ℕ) → 64 ≤ end - i → NoneBefore f i (i + 64) j → NoneBefore f j end r → NoneBefore f i end r
 miss-first-then f i end j r h g m = miss-join f i end j r (miss-first f i end j h g) m
 
--- ---- the first place of a look
+-- ---- the first place of a block
 
 -- none before the nearest, as far as j places were tried
 pub record Nearest (f : ℕ → Bool) (i b j : ℕ) : Type 0 where

@@ -1,4 +1,4 @@
--- Places of a text that a test picks out, and what it is to have looked for them. Assumes nothing.
+-- Places of a text that pass a test, and what it is to have searched for them. Assumes nothing.
 use mathlib.Core.Path.{_≡_}
 use mathlib.Core.Bool.{Bool, false, not}
 use mathlib.Core.List.{List}
@@ -7,22 +7,22 @@ use lib.Bits.{bitAnd}
 use lib.Dec.{eqb}
 use lib.ListN.{getD}
 
--- A look at the k places from i on: where it says no, the test picks out none of them.
+-- A block of the k places from i on: where it says no, none of them passes the test.
 pub record BlockTested (f : ℕ → Bool) (i k : ℕ) (r : Bool) : Type 0 where
   pub none : r ≡ false → (j : ℕ) → j < k → f (i + j) ≡ false
 
--- The test picks out none of the places from i up to r; `end` bounds r.
+-- None of the places from i up to r passes the test; `end` bounds r.
 pub record NoneBefore (f : ℕ → Bool) (i end r : ℕ) : Type 0 where
   pub fore : i ≤ r
   pub within : r ≤ end
   pub none : (j : ℕ) → i ≤ j → j < r → f j ≡ false
 
--- The place j of a look, or the end of it, where the test does not pick j out.
+-- The lane j of a block, or its end, where j does not pass the test.
 pub record LaneOrEnd (hit : Bool) (j r : ℕ) : Type 0 where
   pub few : r ≤ 64
   pub over : j < r → hit ≡ false
 
--- Where a look of 64 places starts that reaches past i, and not past the place `last`.
+-- Where a block of 64 places starts that reaches past i, and not past the place `last`.
 pub record BlockStart (i last r : ℕ) : Type 0 where
   pub back : r ≤ i
   pub within : r ≤ last

@@ -12,7 +12,7 @@ use lib.Seq.{sets, take-all, take-suc-set, take-suc, take-take, drop-cons, getD-
 use borrow.Author.Tests.{lt-ltb, le-ltb}
 use Rattle.model.proofs.LentLists.{sets-kept}
 
--- ---- `block_at`, `mixed`
+-- ---- `load_block`, `blend`
 
 -- a block so far: j bytes of a text
 pub record Filling (text block : List ℕ) (j : ℕ) : Type 0 where
@@ -78,7 +78,7 @@ module _ (x y : List ℕ) (n : ℕ) (p : length x ≡ 32) (q : length y ≡ 32) 
     pub mix-over : 32 ≤ j → block ≡ take n x ++ drop n y
     mix-over l = fill-over (take n x ++ drop n y) block j g l ∙ take-all 32 (take n x ++ drop n y) (omega (arith, mix-long))
 
--- ---- `put_block`, `copy_block`, `copy_part`
+-- ---- `store_block`, `copy_block`, `copy_part`
 
 pub record Putting (block : List ℕ) (i : ℕ) (out₀ out : List ℕ) (j : ℕ) : Type 0 where
   pub few : j ≤ 32

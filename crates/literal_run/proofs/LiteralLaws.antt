@@ -17,7 +17,7 @@ use Rattle.model.proofs.LentLists.{sets-append}
 use Rattle.byte_search.specs.BlockTests.{BlockTested, NoneBefore, same}
 use Rattle.literal_run.specs.LiteralRuns.{Copied, RestCopied, LiteralsCopied}
 
--- k places that a look for `&` did not pick out are plain bytes
+-- k places where a block has no `&` are plain bytes
 pub missed-plain : (s : List ℕ) (k i : ℕ) → i + k ≤ length s → ((j : ℕ) → j < k → same s 38 (i + j) ≡ false) → T (all notAmp (take k (drop i s)))
 missed-plain s zero i h f = tt
 missed-plain s (suc k) i h f =
@@ -101,7 +101,7 @@ module _ (raw : List ℕ) (i₀ : ℕ) (out₀ : List ℕ) where
 pub blocks-begun : (raw out₀ : List ℕ) → Copying raw 0 out₀ out₀ 0
 blocks-begun raw out₀ = copy-begun raw 0 out₀ (omega arith)
 
--- ---- `copy_near`, `copy_run`
+-- ---- `copy_last_block`, `copy_literals`
 
 pub near-copied : (raw out : List ℕ) (i j : ℕ) → i + 64 ≤ length raw → NoneBefore (same raw 38) i (i + 64) j → getD raw j 0 ≡ 38
     → (out′ : List ℕ) → out′ ≡ sets out i (take (j - i) (drop i raw)) → RestCopied raw i out j out′

@@ -1,4 +1,4 @@
--- Runs of plain bytes, spilled whole blocks at a time into a buffer that is read only as far as it is written. On plain values. Assumes nothing.
+-- Literal bytes, copied whole blocks at a time into a buffer that is read only as far as it is written. On plain values. Assumes nothing.
 use mathlib.Core.Path.{_≡_, refl, sym, ap, ap₂, subst, _∙_}
 use mathlib.Core.Bool.{Bool, false}
 use mathlib.Core.List.{List, _++_}
@@ -43,7 +43,7 @@ module _ (raw out₀ : List ℕ) where
     still-long : (k : ℕ) (out′ : List ℕ) → out′ ≡ sets out i (take k (drop i raw)) → length out′ ≡ length out₀
     still-long k out′ e = ap length e ∙ length-sets out i (take k (drop i raw)) ∙ g .long
 
-    -- ---- the loop of `spill_blocks`
+    -- ---- the loop of `copy_blocks_overrun`
 
     pub overrun-on : 64 ≤ length raw - i → (r : Bool) → BlockTested (same raw 38) i 32 r → r ≡ false
         → (out′ : List ℕ) → out′ ≡ sets out i (take 32 (drop i raw)) → OverrunInvariant raw out₀ out′ (i + 32)
@@ -70,7 +70,7 @@ module _ (raw out₀ : List ℕ) where
     pub overrun-ends : length raw - i < 64 → BlocksOverrun raw out₀ i out
     overrun-ends h = record { fits = g .fits; plain = g .plain; front = g .front; ahead = λ l. absurd (omega arith); long = g .long }
 
-    -- ---- `spill_run`: the rest byte by byte
+    -- ---- `copy_literals_overrun`: the rest byte by byte
 
     rest-overrun : (r : ℕ) (out′ : List ℕ) → RestCopied raw i out r out′ → LiteralsOverrun raw out₀ r out′
     rest-overrun r out′ y =
@@ -84,7 +84,7 @@ module _ (raw out₀ : List ℕ) where
           long = still-long k out′ (z .list);
         }
 
--- ---- `near_amp`
+-- ---- `amp_in_block`
 
 pub near-none : (raw : List ℕ) (i : ℕ) → NoneBefore (same raw 38) i (i + 32) i
 near-none raw i = record { fore = omega arith; within = omega arith; none = λ j a b. absurd (omega arith) }
@@ -92,14 +92,14 @@ near-none raw i = record { fore = omega arith; within = omega arith; none = λ j
 pub near-found : (raw : List ℕ) (i j : ℕ) → NoneBefore (same raw 38) i (i + 64) j → j - i ≤ 32 → NoneBefore (same raw 38) i (i + 32) j
 near-found raw i j m h = let a = m .fore in record { fore = a; within = omega arith; none = m .none }
 
--- ---- `spill_run`
+-- ---- `copy_literals_overrun`
 
 module _ (raw out : List ℕ) (wide : length raw ≤ length out) (i : ℕ) (out₁ : List ℕ) (x : BlocksOverrun raw out i out₁) where
-  spilled : OverrunInvariant raw out out₁ i
-  spilled = record { fits = x .fits; plain = x .plain; front = x .front; long = x .long; wide = rw (x .long) wide }
+  copied-overrun : OverrunInvariant raw out out₁ i
+  copied-overrun = record { fits = x .fits; plain = x .plain; front = x .front; long = x .long; wide = rw (x .long) wide }
 
   pub run-ends : (r : ℕ) (out′ : List ℕ) → RestCopied raw i out₁ r out′ → LiteralsOverrun raw out r out′
-  run-ends r out′ y = rest-overrun raw out spilled r out′ y
+  run-ends r out′ y = rest-overrun raw out copied-overrun r out′ y
 
   module _ (h : 64 ≤ length raw - i) (j : ℕ) (m : NoneBefore (same raw 38) i (i + 32) j) where
     -- what was copied of the block ahead
@@ -109,7 +109,7 @@ module _ (raw out : List ℕ) (wide : length raw ≤ length out) (i : ℕ) (out�
         let b = m .within in
         let e : i + (j - i) ≡ j = omega arith in
         let t : T (all notAmp (take (i + (j - i)) raw)) =
-        plain-more raw out spilled (j - i) (missed-plain raw (j - i) i (omega arith) (λ k l. m .none (i + k) (omega arith) (omega arith))) in
+        plain-more raw out copied-overrun (j - i) (missed-plain raw (j - i) i (omega arith) (λ k l. m .none (i + k) (omega arith) (omega arith))) in
         record {
           fits = omega arith;
           plain = subst (λ (n : ℕ). T (all notAmp (take n raw))) e t;

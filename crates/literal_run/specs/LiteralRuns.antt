@@ -17,7 +17,7 @@ pub record Copied (raw : List ℕ) (i : ℕ) (out : List ℕ) (r : ℕ) (out′ 
   pub plain : T (all notAmp (take count (drop i raw)))
   pub list : out′ ≡ sets out i (take count (drop i raw))
 
--- `copy_bytes`, `copy_near`: and then comes a `&` or the end
+-- `copy_bytes`, `copy_last_block`: and then comes a `&` or the end
 pub record RestCopied (raw : List ℕ) (i : ℕ) (out : List ℕ) (r : ℕ) (out′ : List ℕ) : Type 0 where
   pub copied : Copied raw i out r out′
   pub stops : r < length raw → getD raw r 0 ≡ byteOf "&"
@@ -28,12 +28,12 @@ pub record LiteralRun (s : List ℕ) (r : ℕ) : Type 0 where
   pub plain : T (all notAmp (take r s))
   pub stops : r < length s → getD s r 0 ≡ byteOf "&"
 
--- `copy_run`: they stand at the buffer's front
+-- `copy_literals`: they stand at the buffer's front
 pub record LiteralsCopied (raw out : List ℕ) (r : ℕ) (out′ : List ℕ) : Type 0 where
   pub run : LiteralRun raw r
   pub list : out′ ≡ sets out 0 (take r raw)
 
--- `spill_blocks`: the first r bytes, none of them `&`, stand at the buffer's front, and so do the 32 after them where the end is not near
+-- `copy_blocks_overrun`: the first r bytes, none of them `&`, stand at the buffer's front, and so do the 32 after them where the end is not near
 pub record BlocksOverrun (raw out : List ℕ) (r : ℕ) (out′ : List ℕ) : Type 0 where
   pub fits : r ≤ length raw
   pub plain : T (all notAmp (take r raw))
@@ -41,7 +41,7 @@ pub record BlocksOverrun (raw out : List ℕ) (r : ℕ) (out′ : List ℕ) : Ty
   pub ahead : r + 64 ≤ length raw → take (r + 32) out′ ≡ take (r + 32) raw
   pub long : length out′ ≡ length out
 
--- `spill_run`: they stand at the buffer's front, and no more is said of it
+-- `copy_literals_overrun`: they stand at the buffer's front, and no more is said of it
 pub record LiteralsOverrun (raw out : List ℕ) (r : ℕ) (out′ : List ℕ) : Type 0 where
   pub run : LiteralRun raw r
   pub front : take r out′ ≡ take r raw

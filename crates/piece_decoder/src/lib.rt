@@ -14,15 +14,15 @@ pub struct Token {
 }
 
 // One reference, or one byte that begins none; or all the rest, if it can still grow.
-fn decode_amp(piece: &[u8], i: usize, room: &mut [u8], at: usize) -> Token
+fn decode_amp(piece: &[u8], i: usize, chunk: &mut [u8], at: usize) -> Token
     requires { ⌜ i < length (now piece) ⌝ }
-    requires { ⌜ at + length (now piece) ≤ length (now room) + i ⌝ }
-    ensures { λ r. ⌜ TokenIs (now (piece .entry)) i (now (room .entry)) at r (now (room .exit)) ⌝ }
+    requires { ⌜ at + length (now piece) ≤ length (now chunk) + i ⌝ }
+    ensures { λ r. ⌜ TokenIs (now (piece .entry)) i (now (chunk .entry)) at r (now (chunk .exit)) ⌝ }
 {
     let found = reference_reader::read_reference(&piece[i..]);
     match found {
         Reference::Decoded(code, k) => {
-            let n = reference_reader::put_utf8(&mut room[at..], code);
+            let n = reference_reader::put_utf8(&mut chunk[at..], code);
             let after = i + k;
             let end = at + n;
             return Token {
@@ -32,7 +32,7 @@ fn decode_amp(piece: &[u8], i: usize, room: &mut [u8], at: usize) -> Token
             };
         }
         Reference::Literal => {
-            room[at] = piece[i];
+            chunk[at] = piece[i];
             let after = i + 1;
             let end = at + 1;
             return Token {
@@ -52,15 +52,15 @@ fn decode_amp(piece: &[u8], i: usize, room: &mut [u8], at: usize) -> Token
 }
 
 // The same, or a run of bytes up to the next `&`.
-fn decode_token(piece: &[u8], i: usize, room: &mut [u8], at: usize) -> Token
+fn decode_token(piece: &[u8], i: usize, chunk: &mut [u8], at: usize) -> Token
     requires { ⌜ i < length (now piece) ⌝ }
-    requires { ⌜ at + length (now piece) ≤ length (now room) + i ⌝ }
-    ensures { λ r. ⌜ TokenIs (now (piece .entry)) i (now (room .entry)) at r (now (room .exit)) ⌝ }
+    requires { ⌜ at + length (now piece) ≤ length (now chunk) + i ⌝ }
+    ensures { λ r. ⌜ TokenIs (now (piece .entry)) i (now (chunk .entry)) at r (now (chunk .exit)) ⌝ }
 {
     if piece[i] == b'&' {
-        return decode_amp(piece, i, room, at);
+        return decode_amp(piece, i, chunk, at);
     }
-    let n = literal_run::copy_literals_overrun(&piece[i..], &mut room[at..]);
+    let n = literal_run::copy_literals_overrun(&piece[i..], &mut chunk[at..]);
     let after = i + n;
     let end = at + n;
     Token {
@@ -77,14 +77,14 @@ pub struct ChunkDecoded {
 }
 
 // Decodes all that the piece lets out to the front of the chunk.
-pub fn decode_chunk(piece: &[u8], room: &mut [u8]) -> ChunkDecoded
-    requires { ⌜ length (now piece) ≤ length (now room) ⌝ }
-    ensures { λ r. ⌜ ChunkDecodedIs (now (piece .entry)) (now (room .entry)) r (now (room .exit)) ⌝ }
+pub fn decode_chunk(piece: &[u8], chunk: &mut [u8]) -> ChunkDecoded
+    requires { ⌜ length (now piece) ≤ length (now chunk) ⌝ }
+    ensures { λ r. ⌜ ChunkDecodedIs (now (piece .entry)) (now (chunk .entry)) r (now (chunk .exit)) ⌝ }
 {
     let mut i = 0;
     let mut at = 0;
     while i < piece.len() {
-        let t = decode_token(piece, i, room, at);
+        let t = decode_token(piece, i, chunk, at);
         if t.held {
             return ChunkDecoded {
                 kept: t.read,

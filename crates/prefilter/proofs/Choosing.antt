@@ -1,4 +1,4 @@
--- What each kind of plan promises, from what was read off the table. Assumes nothing.
+-- What each kind of prefilter promises, from what was read off the table. Assumes nothing.
 use mathlib.Core.Path.{_≡_, refl, sym, _∙_}
 use mathlib.Core.Bool.{Bool, true, false, _&&_}
 use mathlib.Core.List.{List}

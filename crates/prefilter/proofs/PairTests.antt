@@ -138,7 +138,7 @@ plain-yes repeats optional top p q low hp hq hh hw el z = record {
   above = λ e. leb-true q top e;
 }
 
--- the plan by a pair
+-- the prefilter by a pair
 pub plan-pair : (t : List ℕ) (repeats optional top home next p q x y a b : ℕ) (r : Bool) → StartState repeats optional top home next → home ≡ 1
     → PairTested t repeats optional top p q x y r → r ≡ true
     → a ≡ p - 1 → b ≡ q - 1 → PrefilterSound t repeats optional top (record { kind = 4; start = home; next = next; lo = x; hi = y; a = a; b = b })

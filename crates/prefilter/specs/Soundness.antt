@@ -1,4 +1,4 @@
--- What a plan promises of a rule's table t, its masks and the number of its top position. Assumes nothing.
+-- What a prefilter promises of a rule's table t, its masks and the number of its top position. Assumes nothing.
 use mathlib.Core.Path.{_≡_}
 use mathlib.Core.Bool.{Bool, true, false, _&&_}
 use mathlib.Core.List.{List}
@@ -10,7 +10,7 @@ use Rattle.shift_and.specs.Bit.{bit}
 use Rattle.shift_and.specs.ForwardStep.{opening, topBit}
 use Rattle.prefilter.specs.declared.Prefilter.{Prefilter}
 
--- `home` is the opening state, where no end is reported, and `next` what a byte can take it to, or keep it at.
+-- `home` is the start state, where no end is reported, and `next` what a byte can take it to, or keep it at.
 pub record StartState (repeats optional top home next : ℕ) : Type 0 where
   pub opens : home ≡ opening 64 optional
   pub goes : next ≡ bitOr (home * 2 % 2 ^ 64) (bitAnd home repeats)

@@ -1,4 +1,4 @@
--- The laws of looks, each at its own test: `search` finds no test under an application, so it is written out here. Assumes nothing.
+-- The laws of blocks, each at its own test: `search` finds no test under an application, so it is written out here. Assumes nothing.
 use mathlib.Core.Path.{_≡_, sym, ap, _∙_}
 use Prim.Native.Nat.{ℕ, _+_, _≤_, _<_}
 use mathlib.Core.Bool.{Bool, false, not, _&&_, _||_}

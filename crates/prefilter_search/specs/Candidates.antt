@@ -1,4 +1,4 @@
--- The tests by which a run passes over bytes. Assumes nothing.
+-- The tests by which a scan skips bytes. Assumes nothing.
 use mathlib.Core.Bool.{Bool, _&&_}
 use mathlib.Core.List.{List}
 use Prim.Native.Nat.{ℕ, _+_}

@@ -16,7 +16,7 @@ use Rattle.byte_search.specs.BlockTests.{NoneBefore, LaneOrEnd, same}
 use Rattle.byte_search.proofs.BlockLaws.{Nearest, near-on, miss-one, miss-join, miss-first}
 use Rattle.reference_search.specs.Candidates.{mayFollowAmp, candidateAt, LiteralEnd}
 
--- ---- the looks, at this test
+-- ---- the blocks, at this test
 
 pub amp-near : (text : List ℕ) (i b j k : ℕ) (hit : Bool) (v b′ : ℕ) → k ≡ j → j < 64 → hit ≡ candidateAt text (i + k) → Nearest (candidateAt text) i b j → LaneOrEnd hit j v → b′ ≤ b → b′ ≤ v
     → Nearest (candidateAt text) i b′ (j + 1)
@@ -36,7 +36,7 @@ no-amp text i end r g = record {
   none = λ j p q. ap (λ (b : Bool). b && mayFollowAmp (getD text (j + 1) 0)) (g .none j p q);
 }
 
--- on by a look for any `&`, and then byte by byte, or by a closer look
+-- on by blocks without any `&`, and then byte by byte, or by a block at this test
 pub amp-bytewise : (text : List ℕ) (i₀ end i at r : ℕ) → NoneBefore (candidateAt text) i₀ end i → NoneBefore (same text 38) i end at → NoneBefore (candidateAt text) at end r → NoneBefore (candidateAt text) i₀ end r
 amp-bytewise text i₀ end i at r g s m = miss-join (candidateAt text) i₀ end at r (miss-join (candidateAt text) i₀ end i at g (no-amp text i end at s)) m
 

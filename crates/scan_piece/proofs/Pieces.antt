@@ -23,7 +23,7 @@ use Rattle.shift_and_step.specs.Stepping.{endsIn}
 use Rattle.scan_piece.specs.Feeding.{textOf, tailOf, Stepped, PartEnd, NextPartIs, RestIs}
 use Rattle.scan_piece.proofs.Steps.{stepped-none, stepped-append}
 
--- ---- `code_through`: the bytes stand in a buffer of four
+-- ---- `step_code_point`: the bytes stand in a buffer of four
 
 module _ (code : ℕ) (l l′ : List ℕ) (n : ℕ) (long : length l ≡ 4) (p : Put l code n l′) where
   pub code-bytes : take n l′ ≡ utf8 code
@@ -38,15 +38,15 @@ module _ (code : ℕ) (l l′ : List ℕ) (n : ℕ) (long : length l ≡ 4) (p :
   pub coded : (t : List ℕ) (m : Masks) (g : Progress) (ends : List ℕ) (r : Progress) (ends′ : List ℕ) → Stepped t m g (take n l′) ends r ends′ → Stepped t m g (utf8 code) ends r ends′
   coded t m g ends r ends′ x = subst (λ (b : List ℕ). Stepped t m g b ends r ends′) code-bytes x
 
--- ---- `alone`
+-- ---- `in_place`
 
 pub long-run : (i e : ℕ) → leb 1024 (e - i) ≡ true → i < e
 long-run i e t = let l = leb-true 1024 (e - i) t in omega arith
 
--- ---- `room_through`, `token`
+-- ---- `step_chunk`, `next_part`
 
 module _ (t : List ℕ) (m : Masks) (g : Progress) (piece : List ℕ) (i : ℕ) (ends : List ℕ) (h : i < length piece) where
-  -- a part, decoded into a room
+  -- a part, decoded into a chunk
   module _ (k : ℕ) (p : PartEnd i (length piece) k) (room : List ℕ) (f : ChunkDecoded) (room′ : List ℕ) (x : ChunkDecodedIs (midOf i (k - i) piece) room f room′) where
     abbrev part : List ℕ
     part = take (k - i) (drop i piece)

@@ -22,7 +22,7 @@ textOf raw = letOut formLimit raw
 unfoldable pub tailOf : List ℕ → List ℕ
 tailOf raw = heldTail formLimit raw
 
--- `through`, `code_through`: from state g over some decoded bytes
+-- `step_held`, `step_code_point`: from state g over some decoded bytes
 pub record Stepped (t : List ℕ) (m : Masks) (g : Progress) (text ends : List ℕ) (r : Progress) (ends′ : List ℕ) : Type 0 where
   pub state : r .d ≡ stateAfter t m (g .d) text
   pub place : r .at ≡ g .at + length text
@@ -31,7 +31,7 @@ pub record Stepped (t : List ℕ) (m : Masks) (g : Progress) (text ends : List �
   pub long : length ends′ ≡ length ends
   pub list : ends′ ≡ sets ends (g .count) (endsIn t m (g .d) (g .at) text)
 
--- as many bytes as a room takes
+-- as many bytes as a chunk takes
 abbrev pub chunkSize : ℕ
 chunkSize = 4096
 
@@ -42,7 +42,7 @@ pub record PartEnd (i len r : ℕ) : Type 0 where
   pub small : r ≤ i + chunkSize
   pub full : r < len → r ≡ i + chunkSize
 
--- `token`: what is let out, and what is left
+-- `next_part`: what is let out, and what is left
 pub record NextPartIs (t : List ℕ) (m : Masks) (g : Progress) (piece : List ℕ) (i : ℕ) (ends : List ℕ) (r : Next) (ends′ : List ℕ) : Type 0 where
   pub gives : List ℕ
   pub steps : Stepped t m g gives ends (r .state) ends′

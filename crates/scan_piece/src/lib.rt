@@ -27,7 +27,7 @@ pub struct Progress {
 fn step_text(
     table: &[u64],
     masks: Masks,
-    plan: Prefilter,
+    filter: Prefilter,
     g: Progress,
     text: &[u8],
     ends: &mut [u32],
@@ -35,11 +35,11 @@ fn step_text(
     requires { ⌜ TableFits (now table) masks ⌝ }
     requires { ⌜ g .count + length (now text) ≤ length (now ends) ⌝ }
     requires { ⌜ g .at + length (now text) < 2 ^ 32 ⌝ }
-    requires { ⌜ PrefilterSound (now table) (masks .repeats) (masks .optional) (masks .top) plan ⌝ }
+    requires { ⌜ PrefilterSound (now table) (masks .repeats) (masks .optional) (masks .top) filter ⌝ }
     ensures { λ r. ⌜ Stepped (now (table .entry)) masks g (now (text .entry)) (now (ends .entry)) r (now (ends .exit)) ⌝ }
 {
     let count = g.count;
-    let r = shift_and_scan::scan_text(table, masks, plan, g.d, g.at, text, &mut ends[count..]);
+    let r = shift_and_scan::scan_text(table, masks, filter, g.d, g.at, text, &mut ends[count..]);
     let at = g.at + text.len() as u32;
     let stored = count + r.count;
     Progress {
@@ -62,15 +62,15 @@ pub fn step_held(
     requires { ⌜ g .at + length (now text) < 2 ^ 32 ⌝ }
     ensures { λ r. ⌜ Stepped (now (table .entry)) masks g (now (text .entry)) (now (ends .entry)) r (now (ends .exit)) ⌝ }
 {
-    let plan = prefilter::choose(table, masks.repeats, masks.optional, masks.top, text.len());
-    step_text(table, masks, plan, g, text, ends)
+    let filter = prefilter::choose(table, masks.repeats, masks.optional, masks.top, text.len());
+    step_text(table, masks, filter, g, text, ends)
 }
 
 // Steps over the UTF-8 bytes of a code point.
 fn step_code_point(
     table: &[u64],
     masks: Masks,
-    plan: Prefilter,
+    filter: Prefilter,
     g: Progress,
     code: u32,
     ends: &mut [u32],
@@ -79,12 +79,12 @@ fn step_code_point(
     requires { ⌜ code < codeLimit ⌝ }
     requires { ⌜ g .count + length (utf8 code) ≤ length (now ends) ⌝ }
     requires { ⌜ g .at + length (utf8 code) < 2 ^ 32 ⌝ }
-    requires { ⌜ PrefilterSound (now table) (masks .repeats) (masks .optional) (masks .top) plan ⌝ }
+    requires { ⌜ PrefilterSound (now table) (masks .repeats) (masks .optional) (masks .top) filter ⌝ }
     ensures { λ r. ⌜ Stepped (now (table .entry)) masks g (utf8 code) (now (ends .entry)) r (now (ends .exit)) ⌝ }
 {
     let mut t = [0u8; 4];
     let n = reference_reader::put_utf8(&mut t, code);
-    step_text(table, masks, plan, g, &t[..n], ends)
+    step_text(table, masks, filter, g, &t[..n], ends)
 }
 
 // After some bytes of a piece: the state, how far the piece is read, and whether the rest of it is held
@@ -130,7 +130,7 @@ fn part_end(i: usize, len: usize) -> usize
 fn step_chunk(
     table: &[u64],
     masks: Masks,
-    plan: Prefilter,
+    filter: Prefilter,
     g: Progress,
     piece: &[u8],
     i: usize,
@@ -140,14 +140,14 @@ fn step_chunk(
     requires { ⌜ i < length (now piece) ⌝ }
     requires { ⌜ g .count + length (now piece) ≤ length (now ends) + i ⌝ }
     requires { ⌜ g .at + length (now piece) < 2 ^ 32 + i ⌝ }
-    requires { ⌜ PrefilterSound (now table) (masks .repeats) (masks .optional) (masks .top) plan ⌝ }
+    requires { ⌜ PrefilterSound (now table) (masks .repeats) (masks .optional) (masks .top) filter ⌝ }
     ensures { λ r. ⌜ NextPartIs (now (table .entry)) masks g (now (piece .entry)) i (now (ends .entry)) r (now (ends .exit)) ⌝ }
 {
     let k = part_end(i, piece.len());
-    let mut room = [0u8; CHUNK];
-    let f = piece_decoder::decode_chunk(&piece[i..k], &mut room);
+    let mut chunk = [0u8; CHUNK];
+    let f = piece_decoder::decode_chunk(&piece[i..k], &mut chunk);
     let n = f.written;
-    let s = step_text(table, masks, plan, g, &room[0..n], ends);
+    let s = step_text(table, masks, filter, g, &chunk[0..n], ends);
     let after = i + f.kept;
     if k < piece.len() {
         return Next {
@@ -168,7 +168,7 @@ fn step_chunk(
 fn next_part(
     table: &[u64],
     masks: Masks,
-    plan: Prefilter,
+    filter: Prefilter,
     g: Progress,
     piece: &[u8],
     i: usize,
@@ -178,19 +178,19 @@ fn next_part(
     requires { ⌜ i < length (now piece) ⌝ }
     requires { ⌜ g .count + length (now piece) ≤ length (now ends) + i ⌝ }
     requires { ⌜ g .at + length (now piece) < 2 ^ 32 + i ⌝ }
-    requires { ⌜ PrefilterSound (now table) (masks .repeats) (masks .optional) (masks .top) plan ⌝ }
+    requires { ⌜ PrefilterSound (now table) (masks .repeats) (masks .optional) (masks .top) filter ⌝ }
     ensures { λ r. ⌜ NextPartIs (now (table .entry)) masks g (now (piece .entry)) i (now (ends .entry)) r (now (ends .exit)) ⌝ }
 {
     let e = reference_search::literal_end(piece, i);
     if in_place(i, e, piece.len()) {
-        let s = step_text(table, masks, plan, g, &piece[i..e], ends);
+        let s = step_text(table, masks, filter, g, &piece[i..e], ends);
         return Next {
             state: s,
             read: e,
             held: false,
         };
     }
-    step_chunk(table, masks, plan, g, piece, i, ends)
+    step_chunk(table, masks, filter, g, piece, i, ends)
 }
 
 // After the rest of a piece: the state, and from where on the piece is held back.
@@ -203,7 +203,7 @@ pub struct Rest {
 fn scan_rest(
     table: &[u64],
     masks: Masks,
-    plan: Prefilter,
+    filter: Prefilter,
     g: Progress,
     piece: &[u8],
     from: usize,
@@ -213,13 +213,13 @@ fn scan_rest(
     requires { ⌜ from ≤ length (now piece) ⌝ }
     requires { ⌜ g .count + length (now piece) ≤ length (now ends) + from ⌝ }
     requires { ⌜ g .at + length (now piece) < 2 ^ 32 + from ⌝ }
-    requires { ⌜ PrefilterSound (now table) (masks .repeats) (masks .optional) (masks .top) plan ⌝ }
+    requires { ⌜ PrefilterSound (now table) (masks .repeats) (masks .optional) (masks .top) filter ⌝ }
     ensures { λ r. ⌜ RestIs (now (table .entry)) masks g (now (piece .entry)) from (now (ends .entry)) r (now (ends .exit)) ⌝ }
 {
     let mut s = g;
     let mut i = from;
     while i < piece.len() {
-        let t = next_part(table, masks, plan, s, piece, i, ends);
+        let t = next_part(table, masks, filter, s, piece, i, ends);
         let u = t.state;
         if t.held {
             return Rest {
@@ -243,7 +243,7 @@ pub struct Fed {
 fn feed_rest(
     table: &[u64],
     masks: Masks,
-    plan: Prefilter,
+    filter: Prefilter,
     g: Progress,
     piece: &[u8],
     from: usize,
@@ -253,10 +253,10 @@ fn feed_rest(
     requires { ⌜ from ≤ length (now piece) ⌝ }
     requires { ⌜ g .count + length (now piece) ≤ length (now ends) + from ⌝ }
     requires { ⌜ g .at + length (now piece) < 2 ^ 32 + from ⌝ }
-    requires { ⌜ PrefilterSound (now table) (masks .repeats) (masks .optional) (masks .top) plan ⌝ }
+    requires { ⌜ PrefilterSound (now table) (masks .repeats) (masks .optional) (masks .top) filter ⌝ }
     ensures { λ r. ⌜ RestFed (now (table .entry)) masks g (now (piece .entry)) from (now (ends .entry)) r (now (ends .exit)) ⌝ }
 {
-    let r = scan_rest(table, masks, plan, g, piece, from, ends);
+    let r = scan_rest(table, masks, filter, g, piece, from, ends);
     let u = r.state;
     let kept = r.kept;
     let none = Held {
@@ -283,19 +283,19 @@ pub fn feed_bytes(
     requires { ⌜ g .at + h .len + length (now piece) < 2 ^ 32 ⌝ }
     ensures { λ r. ⌜ FedIs (now (table .entry)) masks g h (now (piece .entry)) (now (ends .entry)) r (now (ends .exit)) ⌝ }
 {
-    let plan = prefilter::choose(table, masks.repeats, masks.optional, masks.top, piece.len());
+    let filter = prefilter::choose(table, masks.repeats, masks.optional, masks.top, piece.len());
     let x = piece_decoder::held::resolve_held(h, piece);
     let case = x.case;
     match case {
         HeldOutcome::Completed(code, taken) => {
-            let s = step_code_point(table, masks, plan, g, code, ends);
-            return feed_rest(table, masks, plan, s, piece, taken, ends);
+            let s = step_code_point(table, masks, filter, g, code, ends);
+            return feed_rest(table, masks, filter, s, piece, taken, ends);
         }
         HeldOutcome::Literal => {
             let b = h.bytes;
             let l = h.len;
-            let s = step_text(table, masks, plan, g, &b[..l], ends);
-            return feed_rest(table, masks, plan, s, piece, 0, ends);
+            let s = step_text(table, masks, filter, g, &b[..l], ends);
+            return feed_rest(table, masks, filter, s, piece, 0, ends);
         }
         HeldOutcome::Pending => {
             let j = x.joined;

@@ -1,4 +1,4 @@
--- An entry picked without a branch, and a turn of the walk that stores by it. Assumes nothing.
+-- An entry selected without a branch, and a turn of the loop that stores by it. Assumes nothing.
 use mathlib.Core.Path.{_≡_, refl, sym, ap, _∙_}
 use mathlib.Core.List.{List}
 use mathlib.Core.Bool.{Bool, true, false, cond}
@@ -19,7 +19,7 @@ use Rattle.shift_and_step.specs.ClosedStates.{Closed, StepsTo}
 use Rattle.shift_and_loop.proofs.LoopLaws.{LoopInvariant, loop-passed, loop-ended}
 use Rattle.shift_and_dense.specs.Branchless.{AcceptBit}
 
--- ---- `pick`
+-- ---- `select`
 
 differs-back : (p q : Bool) → differs p (differs p q) ≡ q
 differs-back false q = refl
@@ -41,7 +41,7 @@ pick-is (suc zero) at old mask h ha ho hm e =
     rw o (ap (bitXor old) (and-mask (bitXor old at) 32 ∙ z) ∙ xor-back old at)
 pick-is (suc (suc n)) at old mask h ha ho hm e = absurd (omega arith)
 
--- ---- `walk_dense`
+-- ---- `loop_branchless`
 
 pub report-is : (top d : ℕ) → AcceptBit top d (d / 2 ^ top % 2)
 unfolding topBit
@@ -70,7 +70,7 @@ module _ {t : List ℕ} {m : Masks} {text ends₀ ends : List ℕ} {s : Cursor} 
           let z : n + 0 ≡ n = omega arith in
           rw (e, h, set-getD ends n 0, z) (loop-passed g l eb es er refl)
 
--- ---- `flickers`
+-- ---- `changes_often`
 
 pub steps-on : {m : Masks} {d b r : ℕ} → StepsTo m d b r → Closed m r
-steps-on s = s .settles
+steps-on s = s .closes

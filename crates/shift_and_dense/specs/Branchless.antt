@@ -1,4 +1,4 @@
--- What a walk without branches counts by. Assumes nothing.
+-- What a loop without branches counts by. Assumes nothing.
 use mathlib.Core.Path.{_≡_}
 use Prim.Native.Nat.{ℕ, _<_}
 use Rattle.model.specs.Occurrence.{oneIf}

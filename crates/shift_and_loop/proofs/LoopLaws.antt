@@ -74,17 +74,17 @@ module _ {t : List ℕ} {m : Masks} {text ends₀ ends : List ℕ} {d₀ at₀ n
           list = rw (add-one n) (sym (ap (sets ends n) q) ∙ g .list);
         }
 
-    -- the walk ends after that byte, and no end is there
+    -- the loop ends after that byte, and no end is there
     pub stopped : {r : Bool} → r ≡ topBit (m .top) d′ → r ≡ false → Advanced t m text ends₀ d₀ at₀ n₀ i₀ (record { d = d′; at = at + 1; n = n; i = i + 1 }) ends
     stopped er z = record { moves = omega arith; going = passed er z }
 
   -- or where it is
-  pub walked : i₀ < i → Advanced t m text ends₀ d₀ at₀ n₀ i₀ (record { d = d; at = at; n = n; i = i }) ends
-  walked h = record { moves = h; going = g }
+  pub advanced : i₀ < i → Advanced t m text ends₀ d₀ at₀ n₀ i₀ (record { d = d; at = at; n = n; i = i }) ends
+  advanced h = record { moves = h; going = g }
 
   -- over what may be passed
-  pub leapt : {at′ j : ℕ} → Skippable t m d text i j → at′ + i ≡ at + j → LoopProgress t m text ends₀ d₀ at₀ n₀ i₀ ends d at′ n j
-  leapt {at′} {j} p e =
+  pub skipped-on : {at′ j : ℕ} → Skippable t m d text i j → at′ + i ≡ at + j → LoopProgress t m text ends₀ d₀ at₀ n₀ i₀ ends d at′ n j
+  skipped-on {at′} {j} p e =
       let q : endsIn t m d at′ (drop j text) ≡ endsIn t m d at (drop i text) = p .ends at at′ e in
       record {
         fore = omega arith;
@@ -110,11 +110,11 @@ module _ {t : List ℕ} {m : Masks} {text ends₀ ends : List ℕ} {d₀ at₀ n
     list = k .list ∙ g .list;
   }
 
--- ---- a walk from a place s, whose states are settled. The count of bytes before i is what the place gives.
+-- ---- a loop from a place s, whose states are closed. The count of bytes before i is what the place gives.
 
 pub record LoopInvariant (t : List ℕ) (m : Masks) (until : ℕ) (text ends₀ : List ℕ) (s : Cursor) (ends : List ℕ) (d n i : ℕ) : Type 0 where
   pub going : LoopProgress t m text ends₀ (s .d) (s .at) (s .n) (s .i) ends d (s .at + (i - s .i)) n i
-  pub settled : Closed m d
+  pub is-closed : Closed m d
   pub far : until ≤ length text
   pub fore : s .i ≤ i
   pub within : i ≤ length text
@@ -124,12 +124,12 @@ pub record LoopInvariant (t : List ℕ) (m : Masks) (until : ℕ) (text ends₀ 
 
 pub set-out : (t : List ℕ) (m : Masks) (until : ℕ) (text ends : List ℕ) (s : Cursor) → HasRoom s until text ends → Closed m (s .d)
     → LoopInvariant t m until text ends s ends (s .d) (s .n) (s .i)
-set-out t m until text ends s o settled =
+set-out t m until text ends s o is-closed =
     let e : s .at ≡ s .at + (s .i - s .i) = omega arith in
     let w : s .i ≤ length text = omega (arith, o .left, o .within) in
     let g : LoopProgress t m text ends (s .d) (s .at) (s .n) (s .i) ends (s .d) (s .at + (s .i - s .i)) (s .n) (s .i) =
     subst (λ (k : ℕ). LoopProgress t m text ends (s .d) (s .at) (s .n) (s .i) ends (s .d) k (s .n) (s .i)) e (begun t m text ends (s .d) (s .at) (s .n) (s .i) w) in
-    record { going = g; settled = settled; far = o .within; fore = omega arith; within = w; fits = o .fits; behind = o .behind; room = o .room }
+    record { going = g; is-closed = is-closed; far = o .within; fore = omega arith; within = w; fits = o .fits; behind = o .behind; room = o .room }
 
 module _ {t : List ℕ} {m : Masks} {text ends₀ ends : List ℕ} {s : Cursor} {d n i until : ℕ} (g : LoopInvariant t m until text ends₀ s ends d n i) where
   module _ {b d′ : ℕ} (l : i < until) (eb : b ≡ getD text i 0) (es : StepsTo m d (getD t b 0) d′) where
@@ -142,7 +142,7 @@ module _ {t : List ℕ} {m : Masks} {text ends₀ ends : List ℕ} {s : Cursor} 
     pub loop-passed : {r : Bool} → r ≡ topBit (m .top) d′ → r ≡ false → LoopInvariant t m until text ends₀ s ends d′ n (i + 1)
     loop-passed er z = record {
       going = subst (λ (k : ℕ). LoopProgress t m text ends₀ (s .d) (s .at) (s .n) (s .i) ends d′ k n (i + 1)) next (passed (g .going) h eb (es .is) er z);
-      settled = es .settles;
+      is-closed = es .closes;
       far = g .far;
       fore = omega (arith, g .fore);
       within = omega arith;
@@ -157,7 +157,7 @@ module _ {t : List ℕ} {m : Masks} {text ends₀ ends : List ℕ} {s : Cursor} 
       going =
           subst (λ (k : ℕ). LoopProgress t m text ends₀ (s .d) (s .at) (s .n) (s .i) (set ends n k) d′ (s .at + (i + 1 - s .i)) (n + 1) (i + 1)) (sym ep)
           (subst (λ (k : ℕ). LoopProgress t m text ends₀ (s .d) (s .at) (s .n) (s .i) (set ends n k) d′ k (n + 1) (i + 1)) next (ended (g .going) h eb (es .is) er z));
-      settled = es .settles;
+      is-closed = es .closes;
       far = g .far;
       fore = omega (arith, g .fore);
       within = omega arith;
@@ -175,15 +175,15 @@ module _ {t : List ℕ} {m : Masks} {text ends₀ ends : List ℕ} {s : Cursor} 
   pub loop-over : {p : ℕ} → p ≡ s .at + (i - s .i) → s .i < until → until ≤ i
       → Advanced t m text ends₀ (s .d) (s .at) (s .n) (s .i) (record { d = d; at = p; n = n; i = i }) ends
   loop-over {p} ep h u =
-      subst (λ (k : ℕ). Advanced t m text ends₀ (s .d) (s .at) (s .n) (s .i) (record { d = d; at = k; n = n; i = i }) ends) (sym ep) (walked (g .going) (omega arith))
+      subst (λ (k : ℕ). Advanced t m text ends₀ (s .d) (s .at) (s .n) (s .i) (record { d = d; at = k; n = n; i = i }) ends) (sym ep) (advanced (g .going) (omega arith))
 
 -- the same after bytes at which the state stays
 module _ {t : List ℕ} {m : Masks} {text ends₀ ends : List ℕ} {s : Cursor} {d n i j until : ℕ} (g : LoopInvariant t m until text ends₀ s ends d n i)
     (p : SkippableUpTo t m d until text i j) where
   on : LoopInvariant t m until text ends₀ s ends d n j
   on = record {
-    going = leapt (g .going) (p .passed) (omega (arith, p .passed .fore, g .fore));
-    settled = g .settled;
+    going = skipped-on (g .going) (p .passed) (omega (arith, p .passed .fore, g .fore));
+    is-closed = g .is-closed;
     far = g .far;
     fore = omega (arith, p .passed .fore, g .fore);
     within = p .passed .within;

@@ -1,4 +1,4 @@
--- What the parts of a run give to each other. A place in a run is a state d, the count `at` of bytes before it, the count n of ends stored, and the
+-- What the parts of a scan give to each other. A place in a scan is a state d, the count `at` of bytes before it, the count n of ends stored, and the
 -- index i of the next byte. Assumes nothing.
 use mathlib.Core.Path.{_≡_}
 use mathlib.Core.List.{List}
@@ -9,7 +9,7 @@ use Rattle.shift_and_step.specs.declared.Masks.{Masks}
 use Rattle.shift_and_step.specs.Stepping.{stateAfter, endsIn}
 use Rattle.shift_and_loop.specs.declared.Cursor.{Cursor}
 
--- From the place (ends₀, d₀, at₀, n₀, i₀) the run has come to (ends, d, at, n, i): what the rest of the text makes of the second is what the text
+-- From the place (ends₀, d₀, at₀, n₀, i₀) the scan has come to (ends, d, at, n, i): what the rest of the text makes of the second is what the text
 -- from i₀ on makes of the first.
 pub record LoopProgress (t : List ℕ) (m : Masks) (text ends₀ : List ℕ) (d₀ at₀ n₀ i₀ : ℕ) (ends : List ℕ) (d at n i : ℕ) : Type 0 where
   pub fore : i₀ ≤ i
@@ -21,19 +21,19 @@ pub record LoopProgress (t : List ℕ) (m : Masks) (text ends₀ : List ℕ) (d�
   pub count : n + length (endsIn t m d at (drop i text)) ≡ n₀ + length (endsIn t m d₀ at₀ (drop i₀ text))
   pub list : sets ends n (endsIn t m d at (drop i text)) ≡ sets ends₀ n₀ (endsIn t m d₀ at₀ (drop i₀ text))
 
--- what a walk gives: it has gone on by at least one byte
+-- what a loop gives: it has gone on by at least one byte
 pub record Advanced (t : List ℕ) (m : Masks) (text ends₀ : List ℕ) (d₀ at₀ n₀ i₀ : ℕ) (r : Cursor) (ends : List ℕ) : Type 0 where
   pub moves : i₀ < r .i
   pub going : LoopProgress t m text ends₀ d₀ at₀ n₀ i₀ ends (r .d) (r .at) (r .n) (r .i)
 
--- The bytes from i up to j may be passed over in state d: nothing ends there, and the rest is as if they were not.
+-- The bytes from i up to j may be skipped in state d: nothing ends there, and the rest is as if they were not.
 pub record Skippable (t : List ℕ) (m : Masks) (d : ℕ) (text : List ℕ) (i j : ℕ) : Type 0 where
   pub fore : i ≤ j
   pub within : j ≤ length text
   pub state : stateAfter t m d (drop j text) ≡ stateAfter t m d (drop i text)
   pub ends : (at at′ : ℕ) → at′ + i ≡ at + j → endsIn t m d at′ (drop j text) ≡ endsIn t m d at (drop i text)
 
--- a pass that goes no further than `until`
+-- a skip that goes no further than `until`
 pub record SkippableUpTo (t : List ℕ) (m : Masks) (d until : ℕ) (text : List ℕ) (i j : ℕ) : Type 0 where
   pub passed : Skippable t m d text i j
   pub short : j ≤ until

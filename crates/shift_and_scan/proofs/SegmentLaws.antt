@@ -1,4 +1,4 @@
--- A run by a plan, turn by turn: a pass over what may be passed, then a walk. Assumes nothing.
+-- A scan by a prefilter, turn by turn: a skip over what may be skipped, then a loop. Assumes nothing.
 use mathlib.Core.Path.{_≡_}
 use mathlib.Core.List.{List, []}
 use mathlib.Core.Bool.{Bool, false}
@@ -12,7 +12,7 @@ use Rattle.shift_and_step.specs.declared.Masks.{Masks}
 use Rattle.shift_and_loop.specs.declared.Cursor.{Cursor}
 use Rattle.shift_and_step.specs.Stepping.{stateAfter, endsIn}
 use Rattle.shift_and_loop.specs.Loops.{LoopProgress, Advanced, Skippable, HasRoom}
-use Rattle.shift_and_loop.proofs.LoopLaws.{begun, walked, leapt, joined, pass-none, pass-more}
+use Rattle.shift_and_loop.proofs.LoopLaws.{begun, advanced, skipped-on, joined, pass-none, pass-more}
 use Rattle.shift_and_scan.specs.Scanning.{Scanned, SegmentEnd}
 
 -- places that a test misses, where each that it misses may be passed over
@@ -41,9 +41,9 @@ over {t} {m} {text} {ends₀} {ends} {d₀} {base} {d} {at} {n} {i} g stop room 
     let k′ : n ≡ length (endsIn t m d₀ base text) = omega arith in
     record { state = s; count = k′; few = omega arith; list = l }
 
--- ---- a stretch: turns of a pass, then a walk
+-- ---- a segment: turns of a skip, then a loop
 
--- there is room at each place that a run comes to
+-- there is room at each place that a scan comes to
 room-of : {t : List ℕ} {m : Masks} {text ends₀ ends : List ℕ} {d₀ at₀ n₀ i₀ d at n i until : ℕ} → LoopProgress t m text ends₀ d₀ at₀ n₀ i₀ ends d at n i
     → n₀ ≤ i₀ → at₀ + length text < 2 ^ 32 + i₀ → length text ≤ length ends₀ → i < until → until ≤ length text
     → HasRoom (record { d = d; at = at; n = n; i = i }) until text ends
@@ -65,27 +65,27 @@ pub begin : {t : List ℕ} {m : Masks} {until : ℕ} {text ends₀ : List ℕ} {
 begin {t} {m} {until} {text} {ends₀} {s} o = record { going = begun t m text ends₀ (s .d) (s .at) (s .n) (s .i) (omega (arith, o .left, o .within)); begin = o }
 
 module _ {t : List ℕ} {m : Masks} {until : ℕ} {text ends₀ ends : List ℕ} {d₀ at₀ n₀ i₀ d at n i : ℕ} (g : SegmentInvariant t m until text ends₀ d₀ at₀ n₀ i₀ ends d at n i) where
-  pub stretched : until ≤ i → Advanced t m text ends₀ d₀ at₀ n₀ i₀ (record { d = d; at = at; n = n; i = i }) ends
-  stretched s = walked (g .going) (omega (arith, g .begin .left))
+  pub segment-stopped : until ≤ i → Advanced t m text ends₀ d₀ at₀ n₀ i₀ (record { d = d; at = at; n = n; i = i }) ends
+  segment-stopped s = advanced (g .going) (omega (arith, g .begin .left))
 
   module _ {j : ℕ} (p : Skippable t m d text i j) where
-    leap : LoopProgress t m text ends₀ d₀ at₀ n₀ i₀ ends d (at + (j - i)) n j
-    leap = leapt (g .going) p (omega (arith, p .fore))
+    skip-progress : LoopProgress t m text ends₀ d₀ at₀ n₀ i₀ ends d (at + (j - i)) n j
+    skip-progress = skipped-on (g .going) p (omega (arith, p .fore))
 
     -- the pass comes to the stretch's end
     pub segment-over : until ≤ j → Advanced t m text ends₀ d₀ at₀ n₀ i₀ (record { d = d; at = at + (j - i); n = n; i = j }) ends
-    segment-over s = walked leap (omega (arith, g .begin .left))
+    segment-over s = advanced skip-progress (omega (arith, g .begin .left))
 
-    -- or the walk has room
+    -- or the loop has room
     pub segment-room : j < until → HasRoom (record { d = d; at = at + (j - i); n = n; i = j }) until text ends
-    segment-room l = room-of leap (g .begin .behind) (g .begin .fits) (g .begin .room) l (g .begin .within)
+    segment-room l = room-of skip-progress (g .begin .behind) (g .begin .fits) (g .begin .room) l (g .begin .within)
 
     -- and leads on
     pub turn : {r : Cursor} {ends′ : List ℕ} → Advanced t m text ends d (at + (j - i)) n j r ends′
         → SegmentInvariant t m until text ends₀ d₀ at₀ n₀ i₀ ends′ (r .d) (r .at) (r .n) (r .i)
-    turn w = record { going = joined leap (w .going); begin = g .begin }
+    turn w = record { going = joined skip-progress (w .going); begin = g .begin }
 
--- ---- a stride: a short stretch, then a long one; and a run of strides
+-- ---- a probe and then a run: a short segment, then a long one; and a scan of them
 
 pub reach-room : {s : Cursor} {near : ℕ} {text ends : List ℕ} → HasRoom s (length text) text ends → SegmentEnd (s .i) (length text) near → HasRoom s near text ends
 reach-room o f = record { left = f .ahead; within = f .within; room = o .room; behind = o .behind; fits = o .fits }
@@ -103,5 +103,5 @@ module _ {t : List ℕ} {m : Masks} {text ends₀ ends : List ℕ} {d₀ base d 
   pub probe-room : base + length text < 2 ^ 32 → length text ≤ length ends₀ → i < length text → HasRoom (record { d = d; at = at; n = n; i = i }) (length text) text ends
   probe-room fits room l = room-of g (omega arith) (omega arith) room l (omega arith)
 
-  pub strides : {r : Cursor} {ends₁ : List ℕ} → Advanced t m text ends d at n i r ends₁ → LoopProgress t m text ends₀ d₀ base 0 0 ends₁ (r .d) (r .at) (r .n) (r .i)
-  strides w = joined g (w .going)
+  pub probes-on : {r : Cursor} {ends₁ : List ℕ} → Advanced t m text ends d at n i r ends₁ → LoopProgress t m text ends₀ d₀ base 0 0 ends₁ (r .d) (r .at) (r .n) (r .i)
+  probes-on w = joined g (w .going)

@@ -59,7 +59,7 @@ narrow-one t next text x i end r o g =
         let q : getD text j 0 ≤ x = leb-true (getD text j 0) x l′ in
         eqb-false (getD text j 0) x e (omega arith))
 
--- ---- by a plan
+-- ---- by a prefilter
 
 module _ {t : List ℕ} {m : Masks} {p : Prefilter} {d : ℕ} {text : List ℕ} {i : ℕ} (pl : PrefilterSound t (m .repeats) (m .optional) (m .top) p) (at-home : d ≡ p .start) where
   -- by the table alone

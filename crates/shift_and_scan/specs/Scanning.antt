@@ -1,4 +1,4 @@
--- What a run over some decoded bytes gives: the state after them, and the ends among them, by the formula. Assumes nothing.
+-- What a scan over some decoded bytes gives: the state after them, and the ends among them, by the formula. Assumes nothing.
 use mathlib.Core.Path.{_≡_}
 use mathlib.Core.List.{List}
 use Prim.Native.Nat.{ℕ, _≤_, _<_}
@@ -8,7 +8,7 @@ use Rattle.shift_and_step.specs.declared.Masks.{Masks}
 use Rattle.shift_and_step.specs.Stepping.{stateAfter, endsIn}
 use Rattle.shift_and_scan.specs.declared.ScanResult.{ScanResult}
 
--- `run`: its result, and the lent list at exit
+-- `scan_text`: its result, and the lent list at exit
 pub record Scanned (t : List ℕ) (m : Masks) (d at : ℕ) (text ends : List ℕ) (r : ScanResult) (ends′ : List ℕ) : Type 0 where
   pub state : r .d ≡ stateAfter t m d text
   pub count : r .count ≡ length (endsIn t m d at text)

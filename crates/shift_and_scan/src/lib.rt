@@ -107,7 +107,7 @@ fn stop_at(kind: u64, i: usize, j: usize, end: usize) -> usize
 // What a segment of a scan comes to: the place, and how many bytes were looped over and not skipped.
 pub struct Segment {
     pub to: Cursor,
-    pub walked: usize,
+    pub looped: usize,
 }
 
 // A segment of a scan, up to `until` or past it: it skips what the prefilter lets it, and loops on from
@@ -132,7 +132,7 @@ fn scan_segment(
     let mut at = s.at;
     let mut n = s.n;
     let mut i = s.i;
-    let mut walked = 0;
+    let mut looped = 0;
     while i < until {
         let j = skip(table, m, p, d, text, i);
         let gone = (j - i) as u32;
@@ -145,7 +145,7 @@ fn scan_segment(
                     n: n,
                     i: j,
                 },
-                walked: walked,
+                looped: looped,
             };
         }
         let stop = stop_at(p.kind, i, j, until);
@@ -165,7 +165,7 @@ fn scan_segment(
                 i: j,
             },
         );
-        walked = std::num::wrapping_add_usize(walked, r.i - j);
+        looped = std::num::wrapping_add_usize(looped, r.i - j);
         d = r.d;
         at = r.at;
         n = r.n;
@@ -178,7 +178,7 @@ fn scan_segment(
             n: n,
             i: i,
         },
-        walked: walked,
+        looped: looped,
     }
 }
 
@@ -204,7 +204,7 @@ fn segment_end(closing: u64, far: usize, i: usize, end: usize) -> usize
 
 // How to go on: by the dense loops, without a test for floods; and whether ends stand close.
 pub struct Strategy {
-    pub even: bool,
+    pub dense: bool,
     pub many: bool,
 }
 
@@ -231,7 +231,7 @@ fn prefers_dense(
     if q.starred {
         return false;
     }
-    if first.walked < bytes / 4 * 3 {
+    if first.looped < bytes / 4 * 3 {
         return false;
     }
     shift_and_dense::closure_unpredictable(table, m, q, first.to.d, text, first.to.i)
@@ -252,9 +252,9 @@ fn strategy_after(
 {
     let bytes = std::num::wrapping_sub_usize(first.to.i, s.i);
     let found = std::num::wrapping_sub_usize(first.to.n, s.n);
-    let even = prefers_dense(table, m, q, text, bytes, found, first);
+    let dense = prefers_dense(table, m, q, text, bytes, found, first);
     Strategy {
-        even: even,
+        dense: dense,
         many: bytes / 32 < found,
     }
 }
@@ -265,7 +265,7 @@ fn run_on(
     m: Masks,
     q: ClosureMasks,
     p: Prefilter,
-    pace: Strategy,
+    strategy: Strategy,
     text: &[u8],
     ends: &mut [u32],
     s: Cursor,
@@ -277,8 +277,8 @@ fn run_on(
     ensures { λ r. ⌜ Advanced (now (table .entry)) m (now (text .entry)) (now (ends .entry)) (s .d) (s .at) (s .n) (s .i) r (now (ends .exit)) ⌝ }
 {
     let far = segment_end(q.closing, RUN, s.i, text.len());
-    if pace.even {
-        return shift_and_dense::run_dense_loop(table, m, q, pace.many, far, text, ends, s);
+    if strategy.dense {
+        return shift_and_dense::run_dense_loop(table, m, q, strategy.many, far, text, ends, s);
     }
     let r = scan_segment(table, m, q, p, far, text, ends, s);
     r.to
@@ -303,8 +303,8 @@ fn probe_then_run(
     let near = segment_end(q.closing, PROBE, s.i, text.len());
     let first = scan_segment(table, m, q, p, near, text, ends, s);
     if first.to.i < text.len() {
-        let pace = strategy_after(table, m, q, text, s, first);
-        return run_on(table, m, q, p, pace, text, ends, first.to);
+        let strategy = strategy_after(table, m, q, text, s, first);
+        return run_on(table, m, q, p, strategy, text, ends, first.to);
     }
     first.to
 }

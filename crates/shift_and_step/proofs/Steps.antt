@@ -38,7 +38,7 @@ step-odd m d b x e =
     let f = blockEnds 64 (m .optional) in
     rw e (bit-odd (flood 64 v (m .optional) i f) (flood-odd 64 v (m .optional) i f (move-odd 64 d b (bitAnd b (m .repeats)))))
 
--- ---- a settled state
+-- ---- a closed state
 
 even-bit : (x : ℕ) → x % 2 ≡ 0 → bit x 0 ≡ false
 unfolding bit
@@ -88,14 +88,14 @@ module _ (m : Masks) (q : ClosureMasks) (of : ClosureMasksOf (m .optional) q) {d
     unfolding stepN advance y move
     by-flood = ap washed x-is ∙ flood-start 64 (m .optional) (s .word) (even-bit (m .optional) (s .even)) (omega arith) y y-lt
 
-    settles : {r : ℕ} → r ≡ stepN m 1 d b → StepsTo m d b r
-    settles {r} e = record { is = e; settles = step-closes m d b r (s .even) (s .word) hb e }
+    closes : {r : ℕ} → r ≡ stepN m 1 d b → StepsTo m d b r
+    closes {r} e = record { is = e; closes = step-closes m d b r (s .even) (s .word) hb e }
 
     -- x touches nothing
     pub step-still : bitAnd x (q .closing) ≡ 0 → StepsTo m d b x
     step-still z =
         let has : bitAnd x (opening 64 (m .optional)) ≡ opening 64 (m .optional) = rw x-is (has-beside y (opening 64 (m .optional))) in
-        settles (sym (flood-quiet 64 (m .optional) (s .word) (even-bit (m .optional) (s .even)) (omega arith) x x-lt has (rw (← of .closing) z)) ∙ by-flood)
+        closes (sym (flood-quiet 64 (m .optional) (s .word) (even-bit (m .optional) (s .even)) (omega arith) x x-lt has (rw (← of .closing) z)) ∙ by-flood)
 
     pub step-plain : q .closing ≡ 0 → StepsTo m d b x
     step-plain z = step-still (ap (bitAnd x) z ∙ and-zero-r x)
@@ -105,13 +105,13 @@ module _ (m : Masks) (q : ClosureMasks) (of : ClosureMasksOf (m .optional) q) {d
     stays-where = record { says = λ t. sym (sym (s .flooded) ∙ ap washed (sym (eqb-true x d t)) ∙ by-flood) }
 
     pub step-flood : {r : ℕ} → r ≡ flood 64 x (m .optional) (blockStarts 64 (m .optional)) (blockEnds 64 (m .optional)) → StepsTo m d b r
-    step-flood {r} e = settles (e ∙ by-flood)
+    step-flood {r} e = closes (e ∙ by-flood)
 
--- ---- `is_settled`
+-- ---- `is_closed`
 
-pub settled : (m : Masks) (q : ClosureMasks) (d f : ℕ) → ClosureMasksOf (m .optional) q → m .optional < 2 ^ 64 → d < 2 ^ 64 → m .optional % 2 ≡ 0 → d % 2 ≡ 1
+pub is-closed : (m : Masks) (q : ClosureMasks) (d f : ℕ) → ClosureMasksOf (m .optional) q → m .optional < 2 ^ 64 → d < 2 ^ 64 → m .optional % 2 ≡ 0 → d % 2 ≡ 1
     → f ≡ flood 64 d (m .optional) (blockStarts 64 (m .optional)) (blockEnds 64 (m .optional)) → {r : Bool} → r ≡ eqb f d → ClosedIs m d r
-settled m q d f of word small even odd e {r} er = record {
+is-closed m q d f of word small even odd e {r} er = record {
   says = λ t. record {
     even = even;
     word = word;
@@ -137,8 +137,8 @@ start-closed m q d of word even e =
       };
     }
 
-pub unsettled : (m : Masks) (d : ℕ) → ClosedIs m d false
-unsettled m d = record { says = λ t. absurd (no t) }
+pub unclosed : (m : Masks) (d : ℕ) → ClosedIs m d false
+unclosed m d = record { says = λ t. absurd (no t) }
   where
     no : false ≡ true → ⊥
     no p = subst (λ (b : Bool). T b) (sym p) tt
@@ -146,7 +146,7 @@ unsettled m d = record { says = λ t. absurd (no t) }
 pub closed-by : {m : Masks} {d : ℕ} {r : Bool} → ClosedIs m d r → r ≡ true → Closed m d
 closed-by s t = s .says t
 
--- ---- `blocks_of`
+-- ---- `closure_masks`
 
 pub blocks-are : {optional home first last less : ℕ} {free stays : Bool} → home ≡ opening 64 optional → first ≡ blockStarts 64 optional → last ≡ blockEnds 64 optional → first < 2 ^ 64 → less < 2 ^ 64
     → (less + 1) % 2 ^ 64 ≡ first → free ≡ eqb (bitAnd (last * 2 % 2 ^ 64) first) 0
@@ -161,7 +161,7 @@ blocks-are {optional} {home} {first} {last} {less} eh ef el hf hl e k = record {
   closing = rw (eh, ef);
 }
 
--- ---- `flooded`
+-- ---- `flood_turned`
 
 -- !(g - i) is (i - 1) - g
 turned : (g i l t : ℕ) → g < 2 ^ 64 → i < 2 ^ 64 → t < 2 ^ 64 → l ≡ wrapSub 64 i 1 → (t + g) % 2 ^ 64 ≡ l → t ≡ (2 ^ 64 - 1) - wrapSub 64 g i
@@ -176,7 +176,7 @@ flood-turned optional q of d t hd hl ht e =
     let k : t ≡ (2 ^ 64 - 1) - wrapSub 64 g (blockStarts 64 optional) = turned g (blockStarts 64 optional) (q .minuend) t hg (of .small) ht (of .minuend) e in
     ap (λ (n : ℕ). bitOr d (bitAnd optional (bitXor n g))) k ∙ ap (λ (f : ℕ). bitOr d (bitAnd optional (bitXor ((2 ^ 64 - 1) - wrapSub 64 (bitOr d f) (blockStarts 64 optional)) (bitOr d f)))) (of .ends)
 
--- ---- `flooded_free`
+-- ---- `flood_guarded`
 
 pub flood-free : (optional : ℕ) (q : ClosureMasks) → ClosureMasksOf optional q → q .separated ≡ true → optional % 2 ≡ 0 → optional < 2 ^ 64 → (d t : ℕ) → d < 2 ^ 64 → q .past < 2 ^ 64 → t < 2 ^ 64
     → (t + bitOr d (q .past)) % 2 ^ 64 ≡ q .minuend

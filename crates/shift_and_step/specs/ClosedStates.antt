@@ -1,4 +1,4 @@
--- States as a step leaves them, and what a walk keeps at hand of the optional positions. Assumes nothing.
+-- States as a step leaves them, closed over the optional positions, and the masks that close one. Assumes nothing.
 use mathlib.Core.Path.{_≡_}
 use mathlib.Core.Bool.{Bool, true}
 use Prim.Native.Nat.{ℕ, _-_, _*_, _%_, _^_, _<_}
@@ -30,7 +30,7 @@ pub record ClosedIs (m : Masks) (d : ℕ) (r : Bool) : Type 0 where
 
 pub record StepsTo (m : Masks) (d b r : ℕ) : Type 0 where
   pub is : r ≡ stepN m 1 d b
-  pub settles : Closed m r
+  pub closes : Closed m r
 
 -- where it says yes, a step leaves the state as it is
 pub record Fixpoint (m : Masks) (d b : ℕ) (r : Bool) : Type 0 where

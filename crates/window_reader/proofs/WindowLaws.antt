@@ -94,7 +94,7 @@ module _ (t : List ℕ) (m : Masks) (size : ℕ) (text : List ℕ) (w : ℕ) (f 
       pub first-passed : {q : Bool} → q ≡ topBit (m .top) d → q ≡ false → Unread t m size text w d size (size - 1 - 1)
       first-passed e k = look-passed t m size text w (look-begun t m size text w f) (omega arith) eb stepped z e k
 
-  -- ---- `is_quiet`: the last two bytes
+  -- ---- `surely_misses`: the last two bytes
 
   module _ {b′ x : ℕ} (eb′ : b′ ≡ getD text (w + (size - 1 - 1)) 0) (ex : x ≡ stepN m 0 d (getD t b′ 0)) {begins : Bool} (ebegins : begins ≡ topBit (m .top) d) where
     pub quiet-pair : 2 ≤ size → {hit : Bool} → size - 1 - 1 ≡ 0 → hit ≡ topBit (m .top) x → SurelyMisses t m size text w (not (begins || hit))
@@ -117,7 +117,7 @@ module _ (t : List ℕ) (m : Masks) (size : ℕ) (text : List ℕ) (w : ℕ) (f 
             let x0 : x ≡ 0 = eqb-true x 0 (not-false (eqb x 0) (or-false-right begins (not (eqb x 0)) n)) in
             look-emptied t m size text w k (omega arith) eb′ ex x0
 
--- ---- `first_steps`
+-- ---- `last_byte_states`
 
 pub record Stepping (t : List ℕ) (m : Masks) (first : List ℕ) (n : ℕ) : Type 0 where
   pub long : length first ≡ 256

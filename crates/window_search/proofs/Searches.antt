@@ -211,8 +211,8 @@ module _ (forward reversed : List ℕ) (rule : Rule) (text l₀ : List ℕ) wher
           }
 
     -- windows passed over
-    pub skimmed : {w′ k : ℕ} → SkippedIs reversed rule text w w′ k → SearchProgress forward reversed rule text l₀ l w′ count (tried + k) spent
-    skimmed {w′} {k} s = record {
+    pub windows-skipped : {w′ k : ℕ} → SkippedIs reversed rule text w w′ k → SearchProgress forward reversed rule text l₀ l w′ count (tried + k) spent
+    windows-skipped {w′} {k} s = record {
       within = s .within;
       few = omega (arith, g .few, s .few);
       tries = omega (arith, g .tries, s .few);

@@ -136,7 +136,7 @@ module _ (forward reversed : List ℕ) (rule : Rule) (text : List ℕ) (w : ℕ)
       both ps (Empty j n) e f m = (f .0 ∙ e, m)
       both ps Spent e f m = tt
 
--- ---- `is_unknown`
+-- ---- `last_byte_absent`
 
 pub unknown-is : (reversed : List ℕ) (size : ℕ) (text : List ℕ) (w b : ℕ) → b ≡ getD text (w + size - 1) 0 → LastByteAbsent reversed size text w (eqb (getD reversed b 0) 0)
 unknown-is reversed size text w b e = record { says = λ t. rw e at (eqb-true (getD reversed b 0) 0 t) }

@@ -46,11 +46,11 @@ returns c = search token-decoded
 enum-told : tie.Need-enum-told
 enum-told c = search needs
 
-shared-slice-read-room : tie.Need-shared-slice-read-room
-shared-slice-read-room c = search needs
+shared-slice-read-chunk : tie.Need-shared-slice-read-chunk
+shared-slice-read-chunk c = search needs
 
-slice-write-room : tie.Need-slice-write-room
-slice-write-room c = search needs
+slice-write-chunk : tie.Need-slice-write-chunk
+slice-write-chunk c = search needs
 
 add-after-2 : tie.Need-add-after-2
 add-after-2 c = search needs
@@ -88,8 +88,8 @@ decode-amp-spec =
     same-length
     returns
     enum-told
-    shared-slice-read-room
-    slice-write-room
+    shared-slice-read-chunk
+    slice-write-chunk
     add-after-2
     add-end-2
     same-length-2

@@ -1,15 +1,15 @@
 -- `shift_and_scan::scan_segment` meets its contract.
 use Prim.Native.Nat.{_-_}
-use Rattle.shift_and_scan.proofs.SegmentLaws.{SegmentInvariant, begin, stretched, segment-over, segment-room, turn}
+use Rattle.shift_and_scan.proofs.SegmentLaws.{SegmentInvariant, begin, segment-stopped, segment-over, segment-room, turn}
 use borrow.Author.Needs.{needs}
 use Rattle.shift_and_scan.proofs.scan_segment.Statement.{statement}
 use Rattle.shift_and_scan.proofs.scan_segment.Tie as tie
 
 abbrev Inv-loop : tie.InvT-loop
-Inv-loop table m q p until text ends₀ d₀ at₀ n₀ i₀ walked₀ ends d at n i walked = SegmentInvariant table m until text ends₀ d₀ at₀ n₀ i₀ ends d at n i
+Inv-loop table m q p until text ends₀ d₀ at₀ n₀ i₀ looped₀ ends d at n i looped = SegmentInvariant table m until text ends₀ d₀ at₀ n₀ i₀ ends d at n i
 
 abbrev μ-loop : tie.MeasureT-loop
-μ-loop table m q p until text ends₀ d₀ at₀ n₀ i₀ walked₀ ends d at n i walked = until - i
+μ-loop table m q p until text ends₀ d₀ at₀ n₀ i₀ looped₀ ends d at n i looped = until - i
 
 loop-holds : tie.Need-loop-holds Inv-loop μ-loop
 loop-holds c = search begin
@@ -54,7 +54,7 @@ same-length-2 : tie.Need-same-length-2 Inv-loop μ-loop
 same-length-2 c = search needs
 
 returns-2 : tie.Need-returns-2 Inv-loop μ-loop
-returns-2 c = search stretched
+returns-2 c = search segment-stopped
 
 pub scan-segment-spec : {M : Type 1} → statement M
 scan-segment-spec =

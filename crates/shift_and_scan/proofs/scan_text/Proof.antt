@@ -4,7 +4,7 @@ use native.Mathlib.Omega.{arith}
 use lib.ListN.{length}
 use Rattle.shift_and_loop.specs.Loops.{LoopProgress}
 use Rattle.shift_and_loop.proofs.LoopLaws.{begun}
-use Rattle.shift_and_scan.proofs.SegmentLaws.{over, probe-room, strides}
+use Rattle.shift_and_scan.proofs.SegmentLaws.{over, probe-room, probes-on}
 use borrow.Author.Needs.{needs}
 use Rattle.shift_and_scan.proofs.scan_text.Statement.{statement}
 use Rattle.shift_and_scan.proofs.scan_text.Tie as tie
@@ -28,7 +28,7 @@ loop-less : tie.Need-loop-less Inv-loop μ-loop
 loop-less c = search needs
 
 loop-again : tie.Need-loop-again Inv-loop μ-loop
-loop-again c = search strides
+loop-again c = search probes-on
 
 same-length : tie.Need-same-length Inv-loop μ-loop
 same-length c = search needs

@@ -2,7 +2,7 @@
 use native.Mathlib.Omega.{arith}
 use Prim.Native.Nat.{_-_}
 use lib.ListN.{length}
-use Rattle.window_search.proofs.Searches.{SearchProgress, begun, skimmed, start-short, start-less, started, empty-short, empty-less, passed, has-entry, halted, rule-some}
+use Rattle.window_search.proofs.Searches.{SearchProgress, begun, windows-skipped, start-short, start-less, started, empty-short, empty-less, passed, has-entry, halted, rule-some}
 use borrow.Author.Needs.{needs}
 use Rattle.window_search.proofs.verify_windows.Statement.{statement}
 use Rattle.window_search.proofs.verify_windows.Tie as tie
@@ -29,7 +29,7 @@ loop-less : tie.Need-loop-less Inv-loop μ-loop
 loop-less c = search needs
 
 loop-again : tie.Need-loop-again Inv-loop μ-loop
-loop-again c = search skimmed
+loop-again c = search windows-skipped
 
 try-window-requires : tie.Need-try-window-requires Inv-loop μ-loop
 try-window-requires c κs = search needs
