@@ -36,12 +36,12 @@ pub record CompletedIs (h piece : List ℕ) (code taken : ℕ) : Type 0 where
   pub small : code < codeLimit
 
 -- The held bytes go out as they came; reading goes on at the piece's first byte.
-pub record PassedIs (h piece : List ℕ) : Type 0 where
+pub record LiteralIs (h piece : List ℕ) : Type 0 where
   pub lets-out : letOut formLimit (h ++ piece) ≡ h ++ letOut formLimit piece
   pub holds : heldTail formLimit (h ++ piece) ≡ heldTail formLimit piece
 
 -- All can still grow and is held now, in `joined`.
-pub record GrowingIs (h piece : List ℕ) (joined : Held) : Type 0 where
+pub record PendingIs (h piece : List ℕ) (joined : Held) : Type 0 where
   pub lets-out : letOut formLimit (h ++ piece) ≡ []
   pub holds : heldTail formLimit (h ++ piece) ≡ h ++ piece
   pub is : heldOf joined ≡ h ++ piece
@@ -49,8 +49,8 @@ pub record GrowingIs (h piece : List ℕ) (joined : Held) : Type 0 where
 
 abbrev pub Resolves : (h piece : List ℕ) (joined : Held) → HeldOutcome → Type 0
 Resolves h piece joined (Completed code taken) = CompletedIs h piece code taken
-Resolves h piece joined Literal = PassedIs h piece
-Resolves h piece joined Pending = GrowingIs h piece joined
+Resolves h piece joined Literal = LiteralIs h piece
+Resolves h piece joined Pending = PendingIs h piece joined
 
 -- `resolve_held`
 pub record ResolvedIs (h : Held) (piece : List ℕ) (r : Resolved) : Type 0 where

@@ -10,11 +10,11 @@ use Rattle.shift_and.specs.Bit.{bit}
 use Rattle.shift_and.specs.ForwardStep.{opening, topBit}
 use Rattle.prefilter.specs.declared.Prefilter.{Prefilter}
 
--- `home` is the start state, where no end is reported, and `next` what a byte can take it to, or keep it at.
-pub record StartState (repeats optional top home next : ℕ) : Type 0 where
-  pub opens : home ≡ opening 64 optional
-  pub goes : next ≡ bitOr (home * 2 % 2 ^ 64) (bitAnd home repeats)
-  pub silent : topBit top home ≡ false
+-- `start` is the start state, where no end is reported, and `next` what a byte can take it to, or keep it at.
+pub record StartState (repeats optional top start next : ℕ) : Type 0 where
+  pub opens : start ≡ opening 64 optional
+  pub goes : next ≡ bitOr (start * 2 % 2 ^ 64) (bitAnd start repeats)
+  pub silent : topBit top start ≡ false
 
 -- Every byte whose entry meets `next` is from lo to hi.
 pub record AllInRange (t : List ℕ) (next lo hi : ℕ) : Type 0 where

@@ -20,7 +20,7 @@ use Rattle.rule_element.specs.declared.KindAnswer.{KindAnswer}
 use Rattle.rule_element.specs.declared.KindAnswer.the-variants.{Spelt, Misspelt}
 use Rattle.rule_element.specs.declared.KindResult.{KindResult}
 use Rattle.byte_set.specs.Sets.{addRanges, none, widen, turn, isEmpty}
-use Rattle.rule_element.specs.Reading.{collect, ReadsItems, setOf, misspelt, spelledBy, SpellingMoves, ReadsClass, ReadsBracket}
+use Rattle.rule_element.specs.Reading.{collect, ReadsItems, setOf, refusedKind, kindAnswerBy, KindAnswerMoves, ReadsClass, ReadsBracket}
 use Rattle.rule_element.proofs.Ends.{past-end, within}
 use Rattle.byte_set.proofs.SetLaws.{class-four, class-member, empty-none, full-some}
 
@@ -76,10 +76,10 @@ items-missed faulty r q e = refl
 items-missed (items rs n) r q e = let z : _≡_ {A = ℕ} 0 1 = cc in clash z
 
 module _ (fold : Bool) (used : ℕ) (turned : Bool) (s : List ℕ) (from p : ℕ) (ep : p ≡ getD s from 0) where
-  no-class : (r : KindResult) → r ≡ misspelt 3 → classOf fold turned (itemsFrom 0 from (drop from s)) ≡ bad 3 → ReadsClass fold used turned s from r
-  no-class r q e = record { is = q ∙ sym (ap (spelledBy fold used 0) e); moves = rw q tt }
+  no-class : (r : KindResult) → r ≡ refusedKind 3 → classOf fold turned (itemsFrom 0 from (drop from s)) ≡ bad 3 → ReadsClass fold used turned s from r
+  no-class r q e = record { is = q ∙ sym (ap (kindAnswerBy fold used 0) e); moves = rw q tt }
 
-  pub class-empty : p ≡ 93 → (r : KindResult) → r ≡ misspelt 3 → ReadsClass fold used turned s from r
+  pub class-empty : p ≡ 93 → (r : KindResult) → r ≡ refusedKind 3 → ReadsClass fold used turned s from r
   class-empty e r q = no-class r q (ap (classOf fold turned) (ap (itemsFrom 0 from) d ∙ u))
     where
       d : drop from s ≡ getD s from 0 ∷ drop (suc from) s
@@ -92,7 +92,7 @@ module _ (fold : Bool) (used : ℕ) (turned : Bool) (s : List ℕ) (from p : ℕ
       u = rw (t, itemsFrom)
 
   module _ (h : p ≡ 93 → ⊥) (i : Items) (ri : ReadsItems s from i) where
-    pub class-open : i .close ≡ NoClose → (r : KindResult) → r ≡ misspelt 3 → ReadsClass fold used turned s from r
+    pub class-open : i .close ≡ NoClose → (r : KindResult) → r ≡ refusedKind 3 → ReadsClass fold used turned s from r
     class-open e r q = no-class r q (ap (classOf fold turned) (items-missed (itemsFrom 0 from (drop from s)) i (ri .is) e))
 
     module _ (next : ℕ) (e : i .close ≡ At next) (t : List ℕ) (et : t ≡ turn turned (widen fold (i .set))) (m : Bool) (em : m ≡ isEmpty t) where
@@ -118,7 +118,7 @@ module _ (fold : Bool) (used : ℕ) (turned : Bool) (s : List ℕ) (from p : ℕ
       tested : (b : Bool) → someBelow (kindSet fold (class turned (some .0 ∷ some .1))) 256 ≡ b → classOf fold turned (itemsFrom 0 from (drop from s)) ≡ cond b (good (class turned (some .0 ∷ some .1)) next) (bad 3)
       tested b q = ap (classOf fold turned) is-items ∙ ap (λ (x : Bool). cond x (good (class turned (some .0 ∷ some .1)) next) (bad 3)) q
 
-      pub class-bare : m ≡ true → (r : KindResult) → r ≡ misspelt 3 → ReadsClass fold used turned s from r
+      pub class-bare : m ≡ true → (r : KindResult) → r ≡ refusedKind 3 → ReadsClass fold used turned s from r
       class-bare y r q =
           no-class r q
           (tested false
@@ -131,7 +131,7 @@ module _ (fold : Bool) (used : ℕ) (turned : Bool) (s : List ℕ) (from p : ℕ
           (full-some (turn turned (widen fold (addRanges none (some .0 ∷ some .1)))) (class-four fold turned (some .0 ∷ some .1)) (kindSet fold (class turned (some .0 ∷ some .1))) (class-member fold turned (some .0 ∷ some .1)) (ap isEmpty (sym is-set) ∙ sym em ∙ y)) in
           let mv : (from < next) × (next ≤ length s) = rw e at (ri .moves) in
           record {
-            is = ap₂ (λ (x : List ℕ) (n : ℕ). record { answer = Spelt (Class used) n; set = x }) is-set (sym (zero-add next)) ∙ sym (ap (spelledBy fold used 0) f);
+            is = ap₂ (λ (x : List ℕ) (n : ℕ). record { answer = Spelt (Class used) n; set = x }) is-set (sym (zero-add next)) ∙ sym (ap (kindAnswerBy fold used 0) f);
             moves = (mv .0, mv .1, tt);
           }
 
@@ -167,30 +167,30 @@ items-later m zero n (c ∷ cs) = go (itemAt (c ∷ cs)) refl (λ k. ap (λ (j :
         let b : itemsFrom 0 n (c ∷ cs) ≡ Model.addRange r (itemsFrom (pred k) (suc n) cs) = rw (e, itemsFrom) in
         a ∙ ap (Model.addRange r) (ih (pred k)) ∙ later-add m r (itemsFrom (pred k) (suc n) cs) ∙ ap (later m) (sym b)
 
-class-later : (fold : Bool) (used at : ℕ) (t : Bool) (x : Model.Items) → spelledBy fold used 0 (classOf fold t (later at x)) ≡ spelledBy fold used at (classOf fold t x)
+class-later : (fold : Bool) (used at : ℕ) (t : Bool) (x : Model.Items) → kindAnswerBy fold used 0 (classOf fold t (later at x)) ≡ kindAnswerBy fold used at (classOf fold t x)
 unfolding later
 class-later fold used at t faulty = refl
 class-later fold used at t (items [] n) = refl
 class-later fold used at t (items (r ∷ rs) n) = go (someBelow (kindSet fold (class t (r ∷ rs))) 256)
   where
-    go : (b : Bool) → spelledBy fold used 0 (cond b (good (class t (r ∷ rs)) (at + n)) (bad 3)) ≡ spelledBy fold used at (cond b (good (class t (r ∷ rs)) n) (bad 3))
+    go : (b : Bool) → kindAnswerBy fold used 0 (cond b (good (class t (r ∷ rs)) (at + n)) (bad 3)) ≡ kindAnswerBy fold used at (cond b (good (class t (r ∷ rs)) n) (bad 3))
     go true = ap (λ (j : ℕ). record { answer = Spelt (Class used) j; set = setOf fold (class t (r ∷ rs)) }) (zero-add (at + n))
     go false = refl
 
-nearer : (s : List ℕ) (at from : ℕ) (a : KindAnswer) → at < from → SpellingMoves s from a → SpellingMoves s at a
+nearer : (s : List ℕ) (at from : ℕ) (a : KindAnswer) → at < from → KindAnswerMoves s from a → KindAnswerMoves s at a
 nearer s at from (Misspelt n) l m = tt
 nearer s at from (Spelt k next) l m = let q = m .0 in (omega arith, m .1, m .2)
 
 module _ (fold : Bool) (used : ℕ) (s : List ℕ) (at : ℕ) (h : at < length s) (p : ℕ) (ep : p ≡ getD s (at + 1) 0) (r : KindResult) where
-  from-class : (from k : ℕ) (t : Bool) (cs : List ℕ) → from ≡ at + k → r ≡ spelledBy fold used 0 (classOf fold t (itemsFrom 0 from cs)) → r ≡ spelledBy fold used at (classOf fold t (itemsFrom 0 k cs))
+  from-class : (from k : ℕ) (t : Bool) (cs : List ℕ) → from ≡ at + k → r ≡ kindAnswerBy fold used 0 (classOf fold t (itemsFrom 0 from cs)) → r ≡ kindAnswerBy fold used at (classOf fold t (itemsFrom 0 k cs))
   from-class from k t cs e q =
-      q ∙ ap (λ (x : Model.Items). spelledBy fold used 0 (classOf fold t x)) (ap (λ (j : ℕ). itemsFrom 0 j cs) e ∙ items-later at 0 k cs) ∙ class-later fold used at t (itemsFrom 0 k cs)
+      q ∙ ap (λ (x : Model.Items). kindAnswerBy fold used 0 (classOf fold t x)) (ap (λ (j : ℕ). itemsFrom 0 j cs) e ∙ items-later at 0 k cs) ∙ class-later fold used at t (itemsFrom 0 k cs)
 
   pub bracket-turned : p ≡ 94 → ReadsClass fold used true s (at + 1 + 1) r → ReadsBracket fold used s at r
   bracket-turned e rc =
       let d : drop (suc at) s ≡ getD s (at + 1) 0 ∷ drop (at + 1 + 1) s = rw (add-one (at + 1), add-one at) (drop-cons s (suc at) 0 (within s (suc at) 93 (ap (λ (j : ℕ). getD s j 0) (sym (add-one at)) ∙ sym ep ∙ e))) in
       record {
-        is = from-class (at + 1 + 1) 2 true (drop (at + 1 + 1) s) (omega arith) (rc .is) ∙ sym (ap (λ (l : List ℕ). spelledBy fold used at (classAt fold l)) d ∙ rw (← ep, eq-eqb _ _ e));
+        is = from-class (at + 1 + 1) 2 true (drop (at + 1 + 1) s) (omega arith) (rc .is) ∙ sym (ap (λ (l : List ℕ). kindAnswerBy fold used at (classAt fold l)) d ∙ rw (← ep, eq-eqb _ _ e));
         moves = nearer s at (at + 1 + 1) (r .answer) (omega arith) (rc .moves);
       }
 
@@ -204,6 +204,6 @@ module _ (fold : Bool) (used : ℕ) (s : List ℕ) (at : ℕ) (h : at < length s
             rw (d, ← ep, ne-eqb _ _ n)
       ] in
       record {
-        is = from-class (at + 1) 1 false (drop (at + 1) s) refl (rc .is) ∙ ap (λ (j : ℕ). spelledBy fold used at (classOf fold false (itemsFrom 0 1 (drop j s)))) (add-one at) ∙ sym (ap (spelledBy fold used at) e);
+        is = from-class (at + 1) 1 false (drop (at + 1) s) refl (rc .is) ∙ ap (λ (j : ℕ). kindAnswerBy fold used at (classOf fold false (itemsFrom 0 1 (drop j s)))) (add-one at) ∙ sym (ap (kindAnswerBy fold used at) e);
         moves = nearer s at (at + 1) (r .answer) (omega arith) (rc .moves);
       }

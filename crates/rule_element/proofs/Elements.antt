@@ -15,13 +15,13 @@ use Rattle.rule_element.specs.declared.KindResult.{KindResult}
 use Rattle.rule_element.specs.declared.Often.{Often}
 use Rattle.rule_element.specs.declared.ElementAnswer.the-variants.{Got}
 use Rattle.rule_element.specs.declared.ElementResult.{ElementResult}
-use Rattle.rule_element.specs.Reading.{KindFits, kindOf, setOf, spelledBy, ReadsKind, oftenOf, markAt, oftenBy, bytesOf, sizeOf, noElement, readBy, ReadsElement}
+use Rattle.rule_element.specs.Reading.{KindFits, kindOf, setOf, kindAnswerBy, ReadsKind, oftenOf, markAt, oftenBy, bytesOf, sizeOf, noElement, readBy, ReadsElement}
 use Rattle.rule_element.proofs.Ends.{past-end}
 
 -- ---- an element
 
 -- what `read_kind` found, read back into the model's
-spelled-bad : (fold : Bool) (used at : ℕ) (x : Model.ReadKind) (k : KindResult) → k ≡ spelledBy fold used at x → (n : ℕ) → k .answer ≡ Misspelt n → x ≡ bad n
+spelled-bad : (fold : Bool) (used at : ℕ) (x : Model.ReadKind) (k : KindResult) → k ≡ kindAnswerBy fold used at x → (n : ℕ) → k .answer ≡ Misspelt n → x ≡ bad n
 spelled-bad fold used at (bad m) k q n e = let z : m ≡ n = cc in ap bad z
 spelled-bad fold used at (good d m) k q n e = let z : _≡_ {A = ℕ} 0 1 = cc in absurd (omega arith)
 
@@ -33,7 +33,7 @@ record KindFound (fold : Bool) (used at : ℕ) (x : Model.ReadKind) (kind : Kind
   is-next : next ≡ at + bytes
   is-set : set ≡ setOf fold model
 
-spelled-good : (fold : Bool) (used at : ℕ) (x : Model.ReadKind) (k : KindResult) → k ≡ spelledBy fold used at x → (kind : Kind) (next : ℕ) → k .answer ≡ Spelt kind next → KindFound fold used at x kind next (k .set)
+spelled-good : (fold : Bool) (used at : ℕ) (x : Model.ReadKind) (k : KindResult) → k ≡ kindAnswerBy fold used at x → (kind : Kind) (next : ℕ) → k .answer ≡ Spelt kind next → KindFound fold used at x kind next (k .set)
 spelled-good fold used at (bad n) k q kind next e = let z : _≡_ {A = ℕ} 0 1 = cc in absurd (omega arith)
 spelled-good fold used at (good d n) k q kind next e = record { model = d; bytes = n; is = refl; is-kind = (cc); is-next = (cc); is-set = ap (λ (y : KindResult). y .set) q }
 

@@ -19,7 +19,7 @@ use Rattle.rule_element.specs.declared.ClassByte.the-variants.{Byte, Wro
 use Rattle.rule_element.specs.declared.Often.{Often}
 use Rattle.rule_element.specs.declared.Often.the-variants.{Once, Optional, Repeatable, Both}
 use Rattle.byte_set.specs.Sets.{none}
-use Rattle.rule_element.specs.Reading.{misspelt, spelledBy, ReadsBracket, ReadsGap, plainOf, ReadsKind, ReadsEscape, oftenOf, markAt, oftenBy}
+use Rattle.rule_element.specs.Reading.{refusedKind, kindAnswerBy, ReadsBracket, ReadsGap, plainOf, ReadsKind, ReadsEscape, oftenOf, markAt, oftenBy}
 use Rattle.rule_element.proofs.Ends.{end-found, end-missed}
 use Rattle.rule_element.proofs.Gaps.{byte-at, gap-same}
 
@@ -39,8 +39,8 @@ module _ (fold : Bool) (used : ℕ) (s : List ℕ) (at : ℕ) (h : at < length s
   here : drop at s ≡ c ∷ cs
   here = drop-cons s at 0 h
 
-  no-kind : (n : ℕ) (r : KindResult) → r ≡ misspelt n → kindAt fold (drop at s) ≡ bad n → ReadsKind fold used s at r
-  no-kind n r q e = record { is = q ∙ sym (ap (spelledBy fold used at) e); moves = rw q tt }
+  no-kind : (n : ℕ) (r : KindResult) → r ≡ refusedKind n → kindAt fold (drop at s) ≡ bad n → ReadsKind fold used s at r
+  no-kind n r q e = record { is = q ∙ sym (ap (kindAnswerBy fold used at) e); moves = rw q tt }
 
   pub kind-any : c ≡ 46 → ReadsKind fold used s at (record { answer = Spelt Any (at + 1); set = none })
   kind-any e = record { is = rw (here, eq-eqb _ _ e); moves = (omega arith, omega arith, tt) }
@@ -67,7 +67,7 @@ module _ (fold : Bool) (used : ℕ) (s : List ℕ) (at : ℕ) (h : at < length s
           by-escape : kindAt fold (drop at s) ≡ kindOfEnd (escapedEnd cs)
           by-escape = rw (here, ne-eqb _ _ n1, ne-eqb _ _ n2, ne-eqb _ _ n3, eq-eqb _ _ e) (sym (escape-as cs))
 
-          pub kind-no-escape : b ≡ Wrong → (r : KindResult) → r ≡ misspelt 6 → ReadsKind fold used s at r
+          pub kind-no-escape : b ≡ Wrong → (r : KindResult) → r ≡ refusedKind 6 → ReadsKind fold used s at r
           kind-no-escape f r q = no-kind 6 r q (by-escape ∙ ap kindOfEnd (end-missed at (escapedEnd cs) (sym f ∙ rb .is)))
 
           pub kind-escape : (v next : ℕ) → b ≡ Byte v next → (r : KindResult) → r ≡ plainOf v next → ReadsKind fold used s at r
@@ -75,29 +75,29 @@ module _ (fold : Bool) (used : ℕ) (s : List ℕ) (at : ℕ) (h : at < length s
               let m : (at < next) × (next ≤ length s) = rw f at (rb .moves) in
               let g = end-found at v next (escapedEnd cs) (sym f ∙ rb .is) in
               record {
-                is = q ∙ ap (plainOf v) (g .2) ∙ sym (ap (spelledBy fold used at) (by-escape ∙ ap kindOfEnd (g .1)));
+                is = q ∙ ap (plainOf v) (g .2) ∙ sym (ap (kindAnswerBy fold used at) (by-escape ∙ ap kindOfEnd (g .1)));
                 moves = rw q (m .0, m .1, tt);
               }
 
         module _ (n4 : c ≡ 92 → ⊥) where
-          pub kind-question : c ≡ 63 → (r : KindResult) → r ≡ misspelt 5 → ReadsKind fold used s at r
+          pub kind-question : c ≡ 63 → (r : KindResult) → r ≡ refusedKind 5 → ReadsKind fold used s at r
           kind-question e r q = no-kind 5 r q (rw (here, ne-eqb _ _ n1, ne-eqb _ _ n2, ne-eqb _ _ n3, ne-eqb _ _ n4, eq-eqb _ _ e))
 
           module _ (n5 : c ≡ 63 → ⊥) where
-            pub kind-plus : c ≡ 43 → (r : KindResult) → r ≡ misspelt 5 → ReadsKind fold used s at r
+            pub kind-plus : c ≡ 43 → (r : KindResult) → r ≡ refusedKind 5 → ReadsKind fold used s at r
             kind-plus e r q = no-kind 5 r q (rw (here, ne-eqb _ _ n1, ne-eqb _ _ n2, ne-eqb _ _ n3, ne-eqb _ _ n4, ne-eqb _ _ n5, eq-eqb _ _ e))
 
             module _ (n6 : c ≡ 43 → ⊥) where
-              pub kind-star : c ≡ 42 → (r : KindResult) → r ≡ misspelt 5 → ReadsKind fold used s at r
+              pub kind-star : c ≡ 42 → (r : KindResult) → r ≡ refusedKind 5 → ReadsKind fold used s at r
               kind-star e r q = no-kind 5 r q (rw (here, ne-eqb _ _ n1, ne-eqb _ _ n2, ne-eqb _ _ n3, ne-eqb _ _ n4, ne-eqb _ _ n5, ne-eqb _ _ n6, eq-eqb _ _ e))
 
               module _ (n7 : c ≡ 42 → ⊥) where
-                pub kind-bracket : c ≡ 93 → (r : KindResult) → r ≡ misspelt 6 → ReadsKind fold used s at r
+                pub kind-bracket : c ≡ 93 → (r : KindResult) → r ≡ refusedKind 6 → ReadsKind fold used s at r
                 kind-bracket e r q =
                     no-kind 6 r q (rw (here, ne-eqb _ _ n1, ne-eqb _ _ n2, ne-eqb _ _ n3, ne-eqb _ _ n4, ne-eqb _ _ n5, ne-eqb _ _ n6, ne-eqb _ _ n7, eq-eqb _ _ e))
 
                 module _ (n8 : c ≡ 93 → ⊥) where
-                  pub kind-brace : c ≡ 125 → (r : KindResult) → r ≡ misspelt 6 → ReadsKind fold used s at r
+                  pub kind-brace : c ≡ 125 → (r : KindResult) → r ≡ refusedKind 6 → ReadsKind fold used s at r
                   kind-brace e r q =
                       no-kind 6 r q
                       (rw (here, ne-eqb _ _ n1, ne-eqb _ _ n2, ne-eqb _ _ n3, ne-eqb _ _ n4, ne-eqb _ _ n5, ne-eqb _ _ n6, ne-eqb _ _ n7, ne-eqb _ _ n8, eq-eqb _ _ e))
@@ -106,7 +106,7 @@ module _ (fold : Bool) (used : ℕ) (s : List ℕ) (at : ℕ) (h : at < length s
                   kind-plain n9 r q =
                       let f : kindAt fold (drop at s) ≡ good (byte c) 1 =
                       rw (here, ne-eqb _ _ n1, ne-eqb _ _ n2, ne-eqb _ _ n3, ne-eqb _ _ n4, ne-eqb _ _ n5, ne-eqb _ _ n6, ne-eqb _ _ n7, ne-eqb _ _ n8, ne-eqb _ _ n9) in
-                      record { is = q ∙ sym (ap (spelledBy fold used at) f); moves = rw q (omega arith, omega arith, tt) }
+                      record { is = q ∙ sym (ap (kindAnswerBy fold used at) f); moves = rw q (omega arith, omega arith, tt) }
 
 -- ---- the mark
 

@@ -96,12 +96,12 @@ setOf fold any = none
 setOf fold (class t rs) = turn t (widen fold (addRanges none rs))
 setOf fold (gap a b) = none
 
-abbrev pub misspelt : (number : ℕ) → KindResult
-misspelt n = record { answer = Misspelt n; set = none }
+abbrev pub refusedKind : (number : ℕ) → KindResult
+refusedKind n = record { answer = Misspelt n; set = none }
 
-abbrev pub spelledBy : (fold : Bool) (used at : ℕ) → Model.ReadKind → KindResult
-spelledBy fold used at (bad n) = misspelt n
-spelledBy fold used at (good k n) = record { answer = Spelt (kindOf used k) (at + n); set = setOf fold k }
+abbrev pub kindAnswerBy : (fold : Bool) (used at : ℕ) → Model.ReadKind → KindResult
+kindAnswerBy fold used at (bad n) = refusedKind n
+kindAnswerBy fold used at (good k n) = record { answer = Spelt (kindOf used k) (at + n); set = setOf fold k }
 
 -- a gap's bounds are in order and have two digits at most
 abbrev pub KindFits : Kind → Type 0
@@ -110,19 +110,19 @@ KindFits Any = Unit {0}
 KindFits (Class n) = Unit {0}
 KindFits (Gap a b) = (a ≤ b) × (1 ≤ b) × (b ≤ 99)
 
-abbrev pub SpellingMoves : List ℕ → (at : ℕ) → KindAnswer → Type 0
-SpellingMoves s at (Misspelt n) = Unit {0}
-SpellingMoves s at (Spelt k next) = (at < next) × (next ≤ length s) × KindFits k
+abbrev pub KindAnswerMoves : List ℕ → (at : ℕ) → KindAnswer → Type 0
+KindAnswerMoves s at (Misspelt n) = Unit {0}
+KindAnswerMoves s at (Spelt k next) = (at < next) × (next ≤ length s) × KindFits k
 
 -- a class from its first item on
 pub record ReadsClass (fold : Bool) (used : ℕ) (turned : Bool) (s : List ℕ) (from : ℕ) (r : KindResult) : Type 0 where
-  pub is : r ≡ spelledBy fold used 0 (classOf fold turned (itemsFrom 0 from (drop from s)))
-  pub moves : SpellingMoves s from (r .answer)
+  pub is : r ≡ kindAnswerBy fold used 0 (classOf fold turned (itemsFrom 0 from (drop from s)))
+  pub moves : KindAnswerMoves s from (r .answer)
 
 -- the class whose `[` stands at a place
 pub record ReadsBracket (fold : Bool) (used : ℕ) (s : List ℕ) (at : ℕ) (r : KindResult) : Type 0 where
-  pub is : r ≡ spelledBy fold used at (Model.classAt fold (drop (suc at) s))
-  pub moves : SpellingMoves s at (r .answer)
+  pub is : r ≡ kindAnswerBy fold used at (Model.classAt fold (drop (suc at) s))
+  pub moves : KindAnswerMoves s at (r .answer)
 
 -- ---- a gap
 
@@ -144,8 +144,8 @@ pub record ReadsBound (s : List ℕ) (at : ℕ) (r : Bound) : Type 0 where
 
 -- the gap whose `{` stands at a place: neither the fold nor the positions before it change what it is
 pub record ReadsGap (s : List ℕ) (at : ℕ) (r : KindResult) : Type 0 where
-  pub is : r ≡ spelledBy false 0 at (Model.gapAt (drop (suc at) s))
-  pub moves : SpellingMoves s at (r .answer)
+  pub is : r ≡ kindAnswerBy false 0 at (Model.gapAt (drop (suc at) s))
+  pub moves : KindAnswerMoves s at (r .answer)
 
 -- ---- any kind
 
@@ -153,8 +153,8 @@ abbrev pub plainOf : (value next : ℕ) → KindResult
 plainOf c next = record { answer = Spelt (AByte c) next; set = none }
 
 pub record ReadsKind (fold : Bool) (used : ℕ) (s : List ℕ) (at : ℕ) (r : KindResult) : Type 0 where
-  pub is : r ≡ spelledBy fold used at (kindAt fold (drop at s))
-  pub moves : SpellingMoves s at (r .answer)
+  pub is : r ≡ kindAnswerBy fold used at (kindAt fold (drop at s))
+  pub moves : KindAnswerMoves s at (r .answer)
 
 -- ---- its mark
 
@@ -204,10 +204,10 @@ pub record ElementMoves (used : ℕ) (s : List ℕ) (at : ℕ) (e : Element) (ne
   pub fits : KindFits (e .kind)
   pub room : used + sizeOf (e .kind) ≤ positionLimit
 
-abbrev pub ReadingMoves : (used : ℕ) → List ℕ → (at : ℕ) → ElementAnswer → Type 0
-ReadingMoves used s at (Refused n) = Unit {0}
-ReadingMoves used s at (Got e next) = ElementMoves used s at e next
+abbrev pub ElementAnswerMoves : (used : ℕ) → List ℕ → (at : ℕ) → ElementAnswer → Type 0
+ElementAnswerMoves used s at (Refused n) = Unit {0}
+ElementAnswerMoves used s at (Got e next) = ElementMoves used s at e next
 
 pub record ReadsElement (fold : Bool) (used : ℕ) (s : List ℕ) (at : ℕ) (r : ElementResult) : Type 0 where
   pub is : r ≡ readBy fold used s at (kindAt fold (drop at s))
-  pub moves : ReadingMoves used s at (r .answer)
+  pub moves : ElementAnswerMoves used s at (r .answer)

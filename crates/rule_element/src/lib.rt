@@ -5,7 +5,7 @@ ghost use mathlib.Core.Path.{_≡_};
 ghost use Prim.Native.Nat.{_≤_, _<_};
 ghost use lib.ListN.{getD, length};
 ghost use Rattle.model.specs.RuleText.{mayEscape, positionLimit};
-ghost use Rattle.rule_element.specs.Reading.{ReadsEnd, ReadsEscape, ReadsItem, ReadsItems, misspelt, ReadsClass, ReadsBracket, ReadsDigit, ReadsBound, ReadsGap, plainOf, ReadsKind, markAt, oftenBy, bytesOf, sizeOf, noElement, ReadsElement};
+ghost use Rattle.rule_element.specs.Reading.{ReadsEnd, ReadsEscape, ReadsItem, ReadsItems, refusedKind, ReadsClass, ReadsBracket, ReadsDigit, ReadsBound, ReadsGap, plainOf, ReadsKind, markAt, oftenBy, bytesOf, sizeOf, noElement, ReadsElement};
 
 // What an element is, with its data. A class is named by the number of the position that it makes, counted from 0; its set lies beside.
 pub enum Kind {
@@ -83,7 +83,7 @@ pub struct ElementResult {
 }
 
 // The byte at i, and 0 past the end: a caller needs no proof that i is within.
-fn peek(s: &[u8], i: usize) -> u8
+fn byte_or_zero(s: &[u8], i: usize) -> u8
     ensures { λ r. ⌜ r ≡ getD (now (s .entry)) i 0 ⌝ }
 {
     if i < s.len() {
@@ -181,7 +181,7 @@ fn read_item(rule: &[u8], at: usize) -> ClassItem
     let ClassByte::Byte(lo, next) = read_end(rule, at) else {
         return ClassItem::Wrong;
     };
-    if peek(rule, next) != b'-' {
+    if byte_or_zero(rule, next) != b'-' {
         return ClassItem::Range(lo, lo, next);
     }
     let second = next + 1;
@@ -226,7 +226,7 @@ fn read_items(rule: &[u8], from: usize) -> Items
 
 // No kind is spelt: the number of the refusal.
 fn refuse_kind(number: u32) -> KindResult
-    ensures { λ r. ⌜ r ≡ misspelt number ⌝ }
+    ensures { λ r. ⌜ r ≡ refusedKind number ⌝ }
 {
     KindResult {
         answer: KindAnswer::Misspelt(number),
@@ -238,7 +238,7 @@ fn refuse_kind(number: u32) -> KindResult
 fn class_from(rule: &[u8], from: usize, fold: bool, turned: bool, used: u32) -> KindResult
     ensures { λ r. ⌜ ReadsClass fold used turned (now (rule .entry)) from r ⌝ }
 {
-    if peek(rule, from) == b']' {
+    if byte_or_zero(rule, from) == b']' {
         return refuse_kind(3);
     }
     let all = read_items(rule, from);
@@ -263,7 +263,7 @@ fn read_class(rule: &[u8], at: usize, fold: bool, used: u32) -> KindResult
     ensures { λ r. ⌜ ReadsBracket fold used (now (rule .entry)) at r ⌝ }
 {
     let first = at + 1;
-    if peek(rule, first) == b'^' {
+    if byte_or_zero(rule, first) == b'^' {
         return class_from(rule, first + 1, fold, true, used);
     }
     class_from(rule, first, fold, false, used)
@@ -293,7 +293,7 @@ fn read_bound(rule: &[u8], at: usize) -> Bound
     if tens == 10 {
         return Bound { value: 0, next: at };
     }
-    let ones = digit(peek(rule, at + 1));
+    let ones = digit(byte_or_zero(rule, at + 1));
     if ones == 10 {
         return Bound {
             value: tens,
@@ -317,7 +317,7 @@ fn read_gap(rule: &[u8], at: usize) -> KindResult
     if comma == first {
         return refuse_kind(4);
     }
-    if peek(rule, comma) != b',' {
+    if byte_or_zero(rule, comma) != b',' {
         return refuse_kind(4);
     }
     let second = comma + 1;
@@ -326,7 +326,7 @@ fn read_gap(rule: &[u8], at: usize) -> KindResult
     if brace == second {
         return refuse_kind(4);
     }
-    if peek(rule, brace) != b'}' {
+    if byte_or_zero(rule, brace) != b'}' {
         return refuse_kind(4);
     }
     if b.value < a.value {
@@ -399,7 +399,7 @@ fn read_kind(rule: &[u8], at: usize, fold: bool, used: u32) -> KindResult
 fn read_mark(rule: &[u8], at: usize) -> Often
     ensures { λ r. ⌜ r ≡ markAt (now (rule .entry)) at ⌝ }
 {
-    let c = peek(rule, at);
+    let c = byte_or_zero(rule, at);
     if c == b'?' {
         return Often::Optional;
     }

@@ -176,7 +176,7 @@ module _ (fold : Bool) (t : RuleMasks) (d : Model.Kind) (o : Model.Often) (few :
 
 -- ---- the loop of `read_rule`
 
-pub record Going (fold : Bool) (s : List ℕ) (t : RuleMasks) (at : ℕ) : Type 0 where
+pub record Parsing (fold : Bool) (s : List ℕ) (t : RuleMasks) (at : ℕ) : Type 0 where
   pub few : t .positions ≤ positionLimit
   pub smallO : t .optional < 2 ^ (t .positions + 1)
   pub smallR : t .repeats < 2 ^ (t .positions + 1)
@@ -189,10 +189,10 @@ size-some (Class n) h = omega arith
 size-some (Gap a b) h = h .1
 
 module _ (fold : Bool) (s : List ℕ) where
-  pub begun : Going fold s start 0
+  pub begun : Parsing fold s start 0
   begun = record { few = omega arith; smallO = omega arith; smallR = omega arith; rest = refl }
 
-  module _ (t : RuleMasks) (at : ℕ) (g : Going fold s t at) where
+  module _ (t : RuleMasks) (at : ℕ) (g : Parsing fold s t at) where
     pub rule-over : length s ≤ at → ReadsRule fold s (Accepted t)
     unfolding maskFrom
     rule-over h =
@@ -219,7 +219,7 @@ module _ (fold : Bool) (s : List ℕ) where
         pub next-ahead : (at < next) × (next ≤ length s)
         next-ahead = let m = moved fold (t .positions) s at h r rc element next e in (omega (arith, m .ahead), m .inside)
 
-        pub rule-turn : (t′ : RuleMasks) → t′ ≡ gainedBy t element → Going fold s t′ next
+        pub rule-turn : (t′ : RuleMasks) → t′ ≡ gainedBy t element → Parsing fold s t′ next
         rule-turn t′ e₁ =
             let used = t .positions in
             let m = moved fold used s at h r rc element next e in

@@ -26,7 +26,7 @@ use Rattle.rule_element.specs.declared.ElementResult.{ElementResult}
 use Rattle.rule_element.specs.Reading.{kindOf, setOf, sizeOf, KindFits, ElementMoves, ReadsElement}
 use Rattle.rule_parser.specs.Gathering.{placedOn}
 use Rattle.rule_parser.specs.Preparing.{preparedBy, prepared}
-use Rattle.rule_table.specs.Tables.{entriesFrom, tableOf, rowOf, Cleared, gained, admitsBy, Room, slotBits, Placed, Fillable, Filled}
+use Rattle.rule_table.specs.Tables.{entriesFrom, tableOf, rowOf, Cleared, gained, admitsBy, SlotsFit, slotBits, Placed, Fillable, Filled}
 use Rattle.rule_parser.proofs.ElementMasks.{kind-length}
 use Rattle.rule_parser.proofs.RuleLaws.{elements-end, element-refused, Found, moved, element-found, placed-lt, placed-mask, size-some}
 
@@ -291,7 +291,7 @@ module _ (f : Bool) (s : List ℕ) (all : List Position) (reversed : Bool) (tota
       counted : used + n + length (positions f (after .0)) ≡ total
       counted = omega (arith, g .count, ap length is-left, length-append kp (positions f (after .0)), long-kp)
 
-      pub fill-room : Room n used total
+      pub fill-room : SlotsFit n used total
       fill-room = record { some = size-some (element .kind) (moves .fits); room = omega (arith, counted); few = g .few }
 
       next : (d : Bool) (c x : ℕ) → Entry d (λ p. p .set c) used (kp ++ positions f (after .0)) all x

@@ -62,7 +62,7 @@ admitsBy fold (Class n) w = inSet w
 admitsBy fold (Gap a b) w = always
 
 -- n positions after `used` of `total`
-pub record Room (n used total : ℕ) : Type 0 where
+pub record SlotsFit (n used total : ℕ) : Type 0 where
   pub some : 1 ≤ n
   pub room : used + n ≤ total
   pub few : total ≤ positionLimit

@@ -4,7 +4,7 @@ ghost use mathlib.Core.Path.{_≡_};
 ghost use Prim.Native.Nat.{_<_, _+_};
 ghost use lib.ListN.{length};
 ghost use Rattle.rule_element.specs.Reading.{sizeOf};
-ghost use Rattle.rule_table.specs.Tables.{Cleared, Gains, always, hasByte, inSet, admitsBy, Room, slotBits, Placed, Fillable, Filled, mirror};
+ghost use Rattle.rule_table.specs.Tables.{Cleared, Gains, always, hasByte, inSet, admitsBy, SlotsFit, slotBits, Placed, Fillable, Filled, mirror};
 use rule_element::ElementAnswer;
 use rule_element::Kind;
 
@@ -78,7 +78,7 @@ fn admit_element(table: &mut [u64], kind: Kind, set: [u64; 4], fold: bool, bits:
 
 // The bits of n positions after `used` of `total`.
 fn slots(n: u32, used: u32, total: u32, reversed: bool) -> u64
-    requires { ⌜ Room n used total ⌝ }
+    requires { ⌜ SlotsFit n used total ⌝ }
     ensures { λ r. ⌜ r ≡ slotBits n used total reversed ⌝ }
 {
     let ones = rule_parser::low_ones(n);
@@ -100,7 +100,7 @@ fn place(
     reversed: bool,
 ) -> u32
     requires { ⌜ length (now table) ≡ 256 ⌝ }
-    requires { ⌜ Room (sizeOf kind) used total ⌝ }
+    requires { ⌜ SlotsFit (sizeOf kind) used total ⌝ }
     ensures { λ r. ⌜ Placed fold kind set used total reversed (now (table .entry)) r (now (table .exit)) ⌝ }
 {
     let n = rule_element::size(kind);

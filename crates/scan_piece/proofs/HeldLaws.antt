@@ -12,7 +12,7 @@ use Rattle.reference_reader.specs.Reader.{codeLimit}
 use Rattle.piece_decoder.specs.declared.held.Held.{Held}
 use Rattle.piece_decoder.specs.declared.held.HeldOutcome.the-variants.{Completed, Literal, Pending}
 use Rattle.piece_decoder.specs.declared.held.Resolved.{Resolved}
-use Rattle.piece_decoder.specs.Held.{heldOf, TopUpIs, CompletedIs, PassedIs, GrowingIs, ResolvedIs}
+use Rattle.piece_decoder.specs.Held.{heldOf, TopUpIs, CompletedIs, LiteralIs, PendingIs, ResolvedIs}
 use Rattle.shift_and_step.specs.declared.Masks.{Masks}
 use Rattle.scan_piece.specs.declared.Progress.{Progress}
 use Rattle.scan_piece.specs.declared.Rest.{Rest}
@@ -82,7 +82,7 @@ module _ (t : List ℕ) (m : Masks) (g : Progress) (h : Held) (piece ends : List
         }
 
   module _ (e : x .case ≡ Literal) where
-    passed : PassedIs (heldOf h) piece
+    passed : LiteralIs (heldOf h) piece
     passed = rw e at (cr .is)
 
     pub fed-literal : (s : Progress) (ends₁ : List ℕ) → Stepped t m g (heldOf h) ends s ends₁ → (r : Fed) (ends′ : List ℕ) → RestFed t m s piece 0 ends₁ r ends′ → FedIs t m g h piece ends r ends′
@@ -99,7 +99,7 @@ module _ (t : List ℕ) (m : Masks) (g : Progress) (h : Held) (piece ends : List
         }
 
   module _ (e : x .case ≡ Pending) where
-    growing : GrowingIs (heldOf h) piece (x .joined)
+    growing : PendingIs (heldOf h) piece (x .joined)
     growing = rw e at (cr .is)
 
     pub fed-pending : FedIs t m g h piece ends (record { state = g; held = x .joined }) ends

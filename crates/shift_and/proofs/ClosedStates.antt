@@ -128,8 +128,8 @@ move-fold d b r k e = same-all (bitOr (bitAnd (d * 2 % 2 ^ 64) b) (bitAnd d (bit
         (fold (bit (d * 2 % 2 ^ 64) j && bit b j) (bit d j) (bit (bitAnd b r) j) (bit k j) (sym (and-bit d k j) ∙ ap (λ (n : ℕ). bit n j) e))
 
 module _ (w a : ℕ) (ha : a < 2 ^ w) (low : bit a 0 ≡ false) where
-  abbrev washed : ℕ → ℕ
-  washed d = flood w d a (blockStarts w a) (blockEnds w a)
+  abbrev floodedBy : ℕ → ℕ
+  floodedBy d = flood w d a (blockStarts w a) (blockEnds w a)
 
   starts-lt : blockStarts w a < 2 ^ w
   starts-lt = lt-of-le-of-lt (and-le-l (a / 2) ((2 ^ w - 1) - a)) (omega arith)
@@ -139,20 +139,20 @@ module _ (w a : ℕ) (ha : a < 2 ^ w) (low : bit a 0 ≡ false) where
   above d hd zero h = bit-above w d 0 hd h
   above d hd (suc j) h = simp (bit-above w d (suc j) hd h, bit-above w a (suc j) ha h)
 
-  flood-all : (d : ℕ) → d < 2 ^ w → (j : ℕ) → bit (washed d) j ≡ closed (bit d) (bit a) j
+  flood-all : (d : ℕ) → d < 2 ^ w → (j : ℕ) → bit (floodedBy d) j ≡ closed (bit d) (bit a) j
   flood-all d hd j = pick (decLt j w)
     where
-      pick : Dec (j < w) → bit (washed d) j ≡ closed (bit d) (bit a) j
+      pick : Dec (j < w) → bit (floodedBy d) j ≡ closed (bit d) (bit a) j
       pick (yes l) = flood-bit w d a (blockStarts w a) (blockEnds w a) starts-lt (blocks w a ha low) j l
       pick (no n) =
           let g : w ≤ j = omega arith in
-          bit-above w (washed d) j (flood-lt w d a (blockStarts w a) (blockEnds w a) hd ha) g ∙ sym (above d hd j g)
+          bit-above w (floodedBy d) j (flood-lt w d a (blockStarts w a) (blockEnds w a) hd ha) g ∙ sym (above d hd j g)
 
-  pub flood-again : (d : ℕ) → d < 2 ^ w → washed (washed d) ≡ washed d
+  pub flood-again : (d : ℕ) → d < 2 ^ w → floodedBy (floodedBy d) ≡ floodedBy d
   flood-again d hd =
-      same-all (washed (washed d)) (washed d) (λ j.
-      flood-all (washed d) (flood-lt w d a (blockStarts w a) (blockEnds w a) hd ha) j
-      ∙ closed-same (bit (washed d)) (closed (bit d) (bit a)) (bit a) (flood-all d hd) j
+      same-all (floodedBy (floodedBy d)) (floodedBy d) (λ j.
+      flood-all (floodedBy d) (flood-lt w d a (blockStarts w a) (blockEnds w a) hd ha) j
+      ∙ closed-same (bit (floodedBy d)) (closed (bit d) (bit a)) (bit a) (flood-all d hd) j
       ∙ closed-again (bit d) (bit a) j
       ∙ sym (flood-all d hd j))
 
@@ -166,9 +166,9 @@ module _ (w a : ℕ) (ha : a < 2 ^ w) (low : bit a 0 ≡ false) where
     start-lt = flood-lt w 1 a (blockStarts w a) (blockEnds w a) one ha
 
     -- the opening state may be set in place of bit 0
-    pub flood-start : (y : ℕ) → y < 2 ^ w → washed (bitOr y (opening w a)) ≡ washed (bitOr y 1)
+    pub flood-start : (y : ℕ) → y < 2 ^ w → floodedBy (bitOr y (opening w a)) ≡ floodedBy (bitOr y 1)
     flood-start y hy =
-        same-all (washed (bitOr y (opening w a))) (washed (bitOr y 1)) (λ j.
+        same-all (floodedBy (bitOr y (opening w a))) (floodedBy (bitOr y 1)) (λ j.
         flood-all (bitOr y (opening w a)) (or-lt w y (opening w a) hy start-lt) j
         ∙ closed-same (bit (bitOr y (opening w a))) (λ (j : ℕ). bit y j || closed (bit 1) (bit a) j) (bit a)
         (λ j. or-bit y (opening w a) j ∙ ap (λ (b : Bool). bit y j || b) (start-bit j)) j
@@ -177,7 +177,7 @@ module _ (w a : ℕ) (ha : a < 2 ^ w) (low : bit a 0 ≡ false) where
         ∙ sym (flood-all (bitOr y 1) (or-lt w y 1 hy one) j))
 
     -- an odd state that the flood leaves as it is has the opening state in it
-    pub start-in : (d : ℕ) → d < 2 ^ w → bit d 0 ≡ true → washed d ≡ d → bitAnd d (opening w a) ≡ opening w a
+    pub start-in : (d : ℕ) → d < 2 ^ w → bit d 0 ≡ true → floodedBy d ≡ d → bitAnd d (opening w a) ≡ opening w a
     start-in d hd odd e = same-all (bitAnd d (opening w a)) (opening w a) (λ j. and-bit d (opening w a) j ∙ absorbs (bit d j) (bit (opening w a) j) (within j))
       where
         past : (p q : Bool) → q ≡ true → (p && not q) ≡ false
@@ -195,9 +195,9 @@ module _ (w a : ℕ) (ha : a < 2 ^ w) (low : bit a 0 ≡ false) where
 
     -- nothing outside the opening state touches a block
     pub flood-quiet : (x : ℕ) → x < 2 ^ w → bitAnd x (opening w a) ≡ opening w a
-        → bitAnd x (bitAnd (bitOr a (blockStarts w a)) ((2 ^ w - 1) - opening w a)) ≡ 0 → washed x ≡ x
+        → bitAnd x (bitAnd (bitOr a (blockStarts w a)) ((2 ^ w - 1) - opening w a)) ≡ 0 → floodedBy x ≡ x
     flood-quiet x hx has e =
-        same-all (washed x) x (λ j.
+        same-all (floodedBy x) x (λ j.
         flood-all x hx j ∙ closed-quiet (bit x) (bit 1) (bit a) (bit (blockStarts w a)) (bit (blockEnds w a)) (blocks w a ha low) held still j)
       where
         held : (j : ℕ) → (closed (bit 1) (bit a) j && not (bit x j)) ≡ false

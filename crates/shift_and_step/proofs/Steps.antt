@@ -60,8 +60,8 @@ step-closes m d b x even word hb e =
     }
 
 module _ (m : Masks) (q : ClosureMasks) (of : ClosureMasksOf (m .optional) q) {d : ℕ} (s : Closed m d) where
-  abbrev washed : ℕ → ℕ
-  washed x = flood 64 x (m .optional) (blockStarts 64 (m .optional)) (blockEnds 64 (m .optional))
+  abbrev floodedBy : ℕ → ℕ
+  floodedBy x = flood 64 x (m .optional) (blockStarts 64 (m .optional)) (blockEnds 64 (m .optional))
 
   pub has-start : bitAnd d (q .start) ≡ q .start
   has-start = rw (of .start) (start-in 64 (m .optional) (s .word) (even-bit (m .optional) (s .even)) (omega arith) d (s .small) (odd-bit d (s .odd)) (s .flooded))
@@ -84,9 +84,9 @@ module _ (m : Masks) (q : ClosureMasks) (of : ClosureMasksOf (m .optional) q) {d
     x-lt = rw x-is (or-lt 64 y (opening 64 (m .optional)) y-lt (start-lt 64 (m .optional) (s .word) (even-bit (m .optional) (s .even)) (omega arith)))
 
     -- the step is the flood of x
-    by-flood : washed x ≡ stepN m 1 d b
+    by-flood : floodedBy x ≡ stepN m 1 d b
     unfolding stepN advance y move
-    by-flood = ap washed x-is ∙ flood-start 64 (m .optional) (s .word) (even-bit (m .optional) (s .even)) (omega arith) y y-lt
+    by-flood = ap floodedBy x-is ∙ flood-start 64 (m .optional) (s .word) (even-bit (m .optional) (s .even)) (omega arith) y y-lt
 
     closes : {r : ℕ} → r ≡ stepN m 1 d b → StepsTo m d b r
     closes {r} e = record { is = e; closes = step-closes m d b r (s .even) (s .word) hb e }
@@ -102,7 +102,7 @@ module _ (m : Masks) (q : ClosureMasks) (of : ClosureMasksOf (m .optional) q) {d
 
     -- x is the state before
     pub stays-where : Fixpoint m d b (eqb x d)
-    stays-where = record { says = λ t. sym (sym (s .flooded) ∙ ap washed (sym (eqb-true x d t)) ∙ by-flood) }
+    stays-where = record { says = λ t. sym (sym (s .flooded) ∙ ap floodedBy (sym (eqb-true x d t)) ∙ by-flood) }
 
     pub step-flood : {r : ℕ} → r ≡ flood 64 x (m .optional) (blockStarts 64 (m .optional)) (blockEnds 64 (m .optional)) → StepsTo m d b r
     step-flood {r} e = closes (e ∙ by-flood)

@@ -4,8 +4,8 @@ use Rattle.rule_element.proofs.Classes.{class-empty, class-open, class-
 use Rattle.rule_element.proofs.class_from.Statement.{statement}
 use Rattle.rule_element.proofs.class_from.Tie as tie
 
-peek-requires : tie.Need-peek-requires
-peek-requires c κs = search needs
+byte-or-zero-requires : tie.Need-byte-or-zero-requires
+byte-or-zero-requires c κs = search needs
 
 refuse-kind-requires : tie.Need-refuse-kind-requires
 refuse-kind-requires c κs = search needs
@@ -47,7 +47,7 @@ pub class-from-spec : {M : Type 1} → statement M
 class-from-spec =
     tie.close
     (tie.spec
-    peek-requires
+    byte-or-zero-requires
     refuse-kind-requires
     returns
     read-items-requires

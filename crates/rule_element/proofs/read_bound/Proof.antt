@@ -16,11 +16,11 @@ digit-requires c κs = search needs
 returns-2 : tie.Need-returns-2
 returns-2 c = search bound-none
 
-add-peek : tie.Need-add-peek
-add-peek c = search needs
+add-byte-or-zero : tie.Need-add-byte-or-zero
+add-byte-or-zero c = search needs
 
-peek-requires : tie.Need-peek-requires
-peek-requires c κs = search needs
+byte-or-zero-requires : tie.Need-byte-or-zero-requires
+byte-or-zero-requires c κs = search needs
 
 digit-requires-2 : tie.Need-digit-requires-2
 digit-requires-2 c κs = search needs
@@ -51,8 +51,8 @@ read-bound-spec =
     shared-slice-read-digit
     digit-requires
     returns-2
-    add-peek
-    peek-requires
+    add-byte-or-zero
+    byte-or-zero-requires
     digit-requires-2
     add-t9
     returns-3

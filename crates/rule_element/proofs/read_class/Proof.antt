@@ -7,8 +7,8 @@ use Rattle.rule_element.proofs.read_class.Tie as tie
 add-first : tie.Need-add-first
 add-first c = search needs
 
-peek-requires : tie.Need-peek-requires
-peek-requires c κs = search needs
+byte-or-zero-requires : tie.Need-byte-or-zero-requires
+byte-or-zero-requires c κs = search needs
 
 add-class-from : tie.Need-add-class-from
 add-class-from c = search needs
@@ -30,7 +30,7 @@ read-class-spec =
     tie.close
     (tie.spec
     add-first
-    peek-requires
+    byte-or-zero-requires
     add-class-from
     class-from-requires
     returns

@@ -16,8 +16,8 @@ refuse-kind-requires c κs = search needs
 returns : tie.Need-returns
 returns c = search gap-bare
 
-peek-requires : tie.Need-peek-requires
-peek-requires c κs = search needs
+byte-or-zero-requires : tie.Need-byte-or-zero-requires
+byte-or-zero-requires c κs = search needs
 
 refuse-kind-requires-2 : tie.Need-refuse-kind-requires-2
 refuse-kind-requires-2 c κs = search needs
@@ -37,8 +37,8 @@ refuse-kind-requires-3 c κs = search needs
 returns-3 : tie.Need-returns-3
 returns-3 c = search gap-bare-2
 
-peek-requires-2 : tie.Need-peek-requires-2
-peek-requires-2 c κs = search needs
+byte-or-zero-requires-2 : tie.Need-byte-or-zero-requires-2
+byte-or-zero-requires-2 c κs = search needs
 
 refuse-kind-requires-4 : tie.Need-refuse-kind-requires-4
 refuse-kind-requires-4 c κs = search needs
@@ -72,14 +72,14 @@ read-gap-spec =
     read-bound-requires
     refuse-kind-requires
     returns
-    peek-requires
+    byte-or-zero-requires
     refuse-kind-requires-2
     returns-2
     add-second
     read-bound-requires-2
     refuse-kind-requires-3
     returns-3
-    peek-requires-2
+    byte-or-zero-requires-2
     refuse-kind-requires-4
     returns-4
     refuse-kind-requires-5

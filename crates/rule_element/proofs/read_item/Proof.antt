@@ -29,8 +29,8 @@ enum-told c = search needs
 returns-3 : tie.Need-returns-3
 returns-3 c = search no-low
 
-peek-requires : tie.Need-peek-requires
-peek-requires c κs = search needs
+byte-or-zero-requires : tie.Need-byte-or-zero-requires
+byte-or-zero-requires c κs = search needs
 
 returns-4 : tie.Need-returns-4
 returns-4 c = search single
@@ -70,7 +70,7 @@ read-item-spec =
     enum-known-lo
     enum-told
     returns-3
-    peek-requires
+    byte-or-zero-requires
     returns-4
     add-second
     read-end-requires-2

@@ -4,8 +4,8 @@ use Rattle.rule_element.proofs.KindLaws.{mark-optional, mark-repeatable
 use Rattle.rule_element.proofs.read_mark.Statement.{statement}
 use Rattle.rule_element.proofs.read_mark.Tie as tie
 
-peek-requires : tie.Need-peek-requires
-peek-requires c κs = search needs
+byte-or-zero-requires : tie.Need-byte-or-zero-requires
+byte-or-zero-requires c κs = search needs
 
 returns : tie.Need-returns
 returns c = search mark-optional
@@ -20,4 +20,4 @@ returns-4 : tie.Need-returns-4
 returns-4 c = search mark-once
 
 pub read-mark-spec : {M : Type 1} → statement M
-read-mark-spec = tie.close (tie.spec peek-requires returns returns-2 returns-3 returns-4)
+read-mark-spec = tie.close (tie.spec byte-or-zero-requires returns returns-2 returns-3 returns-4)

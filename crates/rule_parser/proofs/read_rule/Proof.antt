@@ -3,12 +3,12 @@ use borrow.Author.Needs.{needs}
 use lib.ListN.{length}
 use native.Mathlib.Omega.{arith}
 use Prim.Native.Nat.{_-_}
-use Rattle.rule_parser.proofs.RuleLaws.{Going, begun, rule-over, rule-refused, next-fits, next-ahead, rule-turn}
+use Rattle.rule_parser.proofs.RuleLaws.{Parsing, begun, rule-over, rule-refused, next-fits, next-ahead, rule-turn}
 use Rattle.rule_parser.proofs.read_rule.Statement.{statement}
 use Rattle.rule_parser.proofs.read_rule.Tie as tie
 
 abbrev Inv-loop : tie.InvT-loop
-Inv-loop rule fold t₀ at₀ t at = Going fold rule t at
+Inv-loop rule fold t₀ at₀ t at = Parsing fold rule t at
 
 abbrev μ-loop : tie.MeasureT-loop
 μ-loop rule fold t₀ at₀ t at = length rule - at

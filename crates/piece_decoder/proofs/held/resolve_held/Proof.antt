@@ -1,5 +1,5 @@
 -- `piece_decoder::held::resolve_held` meets its contract.
-use Rattle.piece_decoder.proofs.Crossings.{resolved-moves, resolved-completed, resolved-literal, resolved-pending}
+use Rattle.piece_decoder.proofs.HeldLaws.{resolved-moves, resolved-completed, resolved-literal, resolved-pending}
 use borrow.Author.Needs.{needs}
 use Rattle.piece_decoder.proofs.held.resolve_held.Statement.{statement}
 use Rattle.piece_decoder.proofs.held.resolve_held.Tie as tie

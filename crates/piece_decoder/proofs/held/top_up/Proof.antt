@@ -1,6 +1,6 @@
 -- `piece_decoder::held::top_up` meets its contract.
 use mathlib.Core.Path.{_≡_}
-use Rattle.piece_decoder.proofs.Crossings.{Topping, topping, topped-short, topped-full, top-up-turn}
+use Rattle.piece_decoder.proofs.HeldLaws.{Topping, topping, topped-short, topped-full, top-up-turn}
 use Rattle.model.specs.References.{formLimit}
 use lib.ListN.{length}
 use Prim.Native.Nat.{_-_}
