@@ -35,6 +35,8 @@ try "scan values" watched build/test/scan_values
 try "limits" build/test/limits
 try "differential, watched" watched build/test/differential 2 300
 try "differential" build/test/differential
+try "written cases" build/test/differential - host/test/cases.txt
+try "lister" sh host/test/lister.sh
 for option in -e -s -t; do
     try "program, watched, $option" watched "${PROGRAM:-build/jazhuppe}" "$option" 'Row A&B [0-9]+' host/sample.xml
 done

@@ -1,5 +1,9 @@
-/* differential.c: random cases through the header, each answer and every lent entry held against the second
- * implementation. `differential [SEED [CASES]]`; a difference prints the whole case and ends the run. */
+/* differential.c: cases through the header, each answer and every lent entry held against the second implementation.
+ * `differential [SEED [CASES]]` draws them; `differential - FILE` reads them from lines, each with what it is first:
+ *   ? rule, tab, plan          a case of document 01 or an edge, with the plan cut in many ways
+ *   ! rule, tab, plan          the same with the fold flag set
+ *   = raw, tab, hexadecimal    a text with references and the bytes that it decodes to, by XML 1.0
+ * A difference prints the whole case and ends the run. */
 #include <stdarg.h>
 #include <stdio.h>
 #include <stdlib.h>
@@ -588,19 +592,12 @@ static void try_show(void)
     hold_lent();
 }
 
+/* Every call on the rule and the plan of now. */
 static void try_case(void)
 {
     asked_len = 0;
     asked[0] = '\0';
     lent_in_front = one_in(2);
-    if (one_in(700)) {
-        make_hostile();
-    } else if (one_in(500)) {
-        make_dense();
-    } else {
-        make_rule();
-        make_plan();
-    }
     now.text_len = second_decoded(now.plan, now.plan_len, now.text);
     decoded_seen += now.text_len < now.plan_len;
     note("prepare\n");
@@ -611,6 +608,88 @@ static void try_case(void)
     try_search();
     if (one_in(4))
         try_show();
+}
+
+static void draw_case(void)
+{
+    if (one_in(700)) {
+        make_hostile();
+    } else if (one_in(500)) {
+        make_dense();
+    } else {
+        make_rule();
+        make_plan();
+    }
+    try_case();
+}
+
+/* ---- cases that are written down */
+
+/* So often is a plan cut anew that each place of it is a cut at least once. */
+enum { CUTS = 60, LINE_ROOM = 4096 };
+
+static void try_often(const char *rule, uint32_t fold, const char *plan)
+{
+    now.rule_len = 0;
+    now.fold = fold;
+    put_text(rule);
+    now.read = second_read(now.rule, now.rule_len, now.fold);
+    now.plan_len = 0;
+    now.plan_most = PLAN_MOST;
+    plan_text(plan);
+    for (int cut = 0; cut < CUTS; cut++)
+        try_case();
+}
+
+/* Whether the second implementation, which the finder is held to, gives the bytes that are written in hexadecimal. */
+static bool decodes_to(const char *raw, const char *hexadecimal)
+{
+    static uint8_t out[LINE_ROOM];
+    size_t n = second_decoded((const uint8_t *)raw, strlen(raw), out);
+
+    if (strlen(hexadecimal) != 2 * n)
+        return false;
+    for (size_t i = 0; i < n; i++) {
+        const char digits[3] = {hexadecimal[2 * i], hexadecimal[2 * i + 1], '\0'};
+
+        if (strtoul(digits, NULL, 16) != out[i])
+            return false;
+    }
+    return true;
+}
+
+static void try_line(char *line)
+{
+    char *tab = strchr(line, '\t');
+
+    if (tab == NULL)
+        different("a line without a tab");
+    *tab++ = '\0';
+    if (line[0] == '=' && !decodes_to(line + 1, tab))
+        different("a published reference");
+    if (line[0] == '=')
+        try_often(".", 0, line + 1);
+    else if (line[0] == '?' || line[0] == '!')
+        try_often(line + 1, line[0] == '!', tab);
+    else
+        different("a line that begins otherwise");
+}
+
+static void try_lines(const char *name)
+{
+    static char line[LINE_ROOM];
+    FILE *file = fopen(name, "r");
+
+    if (file == NULL) {
+        perror(name);
+        exit(EXIT_FAILURE);
+    }
+    for (cases = 0; fgets(line, sizeof line, file) != NULL; cases++) {
+        case_number = cases;
+        line[strcspn(line, "\n")] = '\0';
+        try_line(line);
+    }
+    fclose(file);
 }
 
 static void print_counts(void)
@@ -628,9 +707,11 @@ static void print_counts(void)
 
 int main(int argc, char **argv)
 {
-    if (argc > 1)
+    const char *file = argc > 2 && strcmp(argv[1], "-") == 0 ? argv[2] : NULL;
+
+    if (file == NULL && argc > 1)
         seed = strtoull(argv[1], NULL, 10);
-    if (argc > 2)
+    if (file == NULL && argc > 2)
         cases = (unsigned)strtoul(argv[2], NULL, 10);
     source = random_from(seed);
     rule_room = lent_room(RULE_ROOM);
@@ -638,9 +719,12 @@ int main(int argc, char **argv)
     scan_room = lent_room((WORDS + 1) * sizeof(uint64_t));
     list_room = lent_room((JAZHUPPE_FEED_LIST(PLAN_MOST) + JAZHUPPE_FINISH_LIST) * sizeof(uint32_t));
     too_much = untouchable_memory(over);
-    printf("differential: seed %llu, %u cases\n", seed, cases);
-    for (case_number = 0; case_number < cases; case_number++)
-        try_case();
+    if (file != NULL)
+        try_lines(file);
+    else
+        for (case_number = 0; case_number < cases; case_number++)
+            draw_case();
+    printf("differential: seed %llu, %u %s\n", seed, cases, file != NULL ? "lines" : "cases");
     print_counts();
     printf("differential: %d ok, 0 failed\n", CALLS);
     return EXIT_SUCCESS;

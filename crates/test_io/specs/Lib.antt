@@ -1,2 +1,0 @@
--- What a part of the crate promises.
-pub mod Places
