@@ -9,6 +9,7 @@ use lib.ListN.{length, take, drop, getD, set, length-append, length-drop, drop-o
 use lib.Seq.{sets, length-sets, drop-cons, drop-drop, length-take-le, take-all}
 use borrow.Rule.Slice.PartMut.{putMid, midOf}
 use borrow.Author.Tests.{lt-ltb, le-ltb}
+use Rattle.model.specs.RefusalNumbers.{tooShort, tooMuch}
 use Rattle.model.specs.References.{formLimit, none, found, referenceAt, utf8, decode}
 use Rattle.model.specs.NumberedAnswers.{textLimit}
 use Rattle.model.proofs.LentLists.{sets-append, sets-from, sets-overwrite}
@@ -172,12 +173,12 @@ module _ (raw out₀ : List ℕ) where
 -- ---- `decode`
 
 module _ (raw out : List ℕ) where
-  pub too-long : textLimit < length raw → DecodeIs raw out (refusing 10) out
+  pub too-long : textLimit < length raw → DecodeIs raw out (refusing tooMuch) out
   unfolding decodeAnswer decodeBuffer
   too-long h = record { answers = rw (lt-ltb textLimit (length raw) h); few = omega arith; buffer = rw (lt-ltb textLimit (length raw) h) }
 
   module _ (h : length raw ≤ textLimit) where
-    pub too-short : length out < length raw → DecodeIs raw out (refusing 9) out
+    pub too-short : length out < length raw → DecodeIs raw out (refusing tooShort) out
     unfolding decodeAnswer decodeBuffer
     too-short k =
         record {

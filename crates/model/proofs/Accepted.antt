@@ -8,6 +8,7 @@ use Prim.Native.Nat.{ℕ, zero, suc, pred, _+_, _-_, _≤_}
 use native.Mathlib.Omega.{arith}
 use lib.Dec.{T, leb, ltb, eqb, leb→le, lt→ltb, eqb-refl}
 use lib.ListN.{length, drop, replicate, length-append, length-replicate}
+use Rattle.model.specs.RefusalNumbers.{tooManyPositions}
 use Rattle.model.specs.Ascii.{byteOf, ascii}
 use Rattle.model.specs.Occurrence.{Position, all, shortest, oneIf}
 use Rattle.model.specs.RuleText.{ruleLimit, positionLimit, Kind, byte, any, class, gap, Often, once, optional, Element, kindSet, isByte, otherCase, position, kindPositions, positions, size, ReadKind, bad, good, someBelow, Items, items, faulty, itemsFrom, classOf, classAt, gapAt, boundAt, startsWith, escapeAt, kindAt, oftenAfter, markBytes, mayEscape, oneOf}
@@ -122,7 +123,7 @@ pub elements-bad : (most : ℕ) (fold : Bool) (c : ℕ) (cs : List ℕ) (place u
 elements-bad most fold c cs place used n q = rw (q, elementsFrom)
 
 pub elements-over : (most : ℕ) (fold : Bool) (c : ℕ) (cs : List ℕ) (place used n : ℕ) (k : Kind) → kindAt fold (c ∷ cs) ≡ good k n → leb (used + size k) most ≡ false
-    → elementsFrom most fold zero place used (c ∷ cs) ≡ refused 7 place
+    → elementsFrom most fold zero place used (c ∷ cs) ≡ refused tooManyPositions place
 elements-over most fold c cs place used n k q r = rw (q, r, elementsFrom)
 
 pub elements-good : (most : ℕ) (fold : Bool) (c : ℕ) (cs : List ℕ) (place used n : ℕ) (k : Kind) → kindAt fold (c ∷ cs) ≡ good k n → leb (used + size k) most ≡ true

@@ -6,6 +6,7 @@ use Prim.Native.Nat.{ℕ, zero, suc, pred, _+_, _≤_}
 use native.Mathlib.Omega.{arith}
 use lib.Dec.{leb, ltb, eqb}
 use lib.ListN.{length, drop}
+use Rattle.model.specs.RefusalNumbers.{ruleEmpty, ruleLong, classFault, gapFault, markFault, byteFault, admitsEmpty}
 use Rattle.model.specs.Ascii.{byteOf, ascii}
 use Rattle.model.specs.Occurrence.{shortest}
 use Rattle.model.specs.RuleText.{oneOf, mayEscape, byte, any, class, gap, Element, kindSet, positions, size, ReadKind, bad, good, Items, faulty, items, itemsFrom, someBelow, classOf, classAt, boundAt, startsWith, gapAt, escapeAt, kindAt, oftenAfter, markBytes}
@@ -35,7 +36,7 @@ either-rule false x y h g = g
 class-row : (fold t : Bool) (x : Items) → KindRow (classOf fold t x)
 class-row fold t faulty = (omega arith, omega arith)
 class-row fold t (items [] n) = (omega arith, omega arith)
-class-row fold t (items (r ∷ rs) n) = either-kind (someBelow (kindSet fold (class t (r ∷ rs))) 256) (good (class t (r ∷ rs)) n) (bad 3) tt (omega arith, omega arith)
+class-row fold t (items (r ∷ rs) n) = either-kind (someBelow (kindSet fold (class t (r ∷ rs))) 256) (good (class t (r ∷ rs)) n) (bad classFault) tt (omega arith, omega arith)
 
 bracket-row : (fold : Bool) (cs : List ℕ) → KindRow (classAt fold cs)
 bracket-row fold [] = (omega arith, omega arith)
@@ -50,11 +51,11 @@ gap-row cs =
     let b = boundAt (drop 1 after-a) in
     let after-b = drop (1 + b .bytes) after-a in
     either-kind (leb 1 (a .bytes) && startsWith (byteOf ",") after-a && leb 1 (b .bytes) && startsWith (byteOf "}") after-b && leb (a .value) (b .value) && leb 1 (b .value))
-    (good (gap (a .value) (b .value)) (a .bytes + b .bytes + 3)) (bad 4) tt (omega arith, omega arith)
+    (good (gap (a .value) (b .value)) (a .bytes + b .bytes + 3)) (bad gapFault) tt (omega arith, omega arith)
 
 escape-row : (cs : List ℕ) → KindRow (escapeAt cs)
 escape-row [] = (omega arith, omega arith)
-escape-row (c ∷ cs) = either-kind (mayEscape c) (good (byte c) 2) (bad 6) tt (omega arith, omega arith)
+escape-row (c ∷ cs) = either-kind (mayEscape c) (good (byte c) 2) (bad byteFault) tt (omega arith, omega arith)
 
 kind-row : (fold : Bool) (cs : List ℕ) → KindRow (kindAt fold cs)
 kind-row fold [] = (omega arith, omega arith)
@@ -63,8 +64,8 @@ kind-row fold (c ∷ cs) =
     (either-kind (eqb c (byteOf "[")) (classAt fold cs) _ (bracket-row fold cs)
     (either-kind (eqb c (byteOf "{")) (gapAt cs) _ (gap-row cs)
     (either-kind (eqb c (byteOf "\\")) (escapeAt cs) _ (escape-row cs)
-    (either-kind (oneOf (ascii "?+*") c) (bad 5) _ (omega arith, omega arith)
-    (either-kind (oneOf (ascii "]}") c) (bad 6) (good (byte c) 1) (omega arith, omega arith) tt)))))
+    (either-kind (oneOf (ascii "?+*") c) (bad markFault) _ (omega arith, omega arith)
+    (either-kind (oneOf (ascii "]}") c) (bad byteFault) (good (byte c) 1) (omega arith, omega arith) tt)))))
 
 added-row : (e : Element) (x : Parsed) → RuleRow x → RuleRow (addElement e x)
 added-row e (refused n p) h = h
@@ -89,13 +90,13 @@ module _ (most : ℕ) (fold : Bool) where
 
   rule-row : (longest : ℕ) (rule : List ℕ) → RuleRow (parseWithin longest most fold rule)
   rule-row longest rule =
-      either-rule (eqb (length rule) 0) (refused 1 0) _ (omega arith, omega arith)
-      (either-rule (ltb longest (length rule)) (refused 2 longest) _ (omega arith, omega arith)
+      either-rule (eqb (length rule) 0) (refused ruleEmpty 0) _ (omega arith, omega arith)
+      (either-rule (ltb longest (length rule)) (refused ruleLong longest) _ (omega arith, omega arith)
       (go (elementsFrom most fold 0 0 0 rule) (elements-row rule 0 0 0)))
     where
       go : (x : Parsed) → RuleRow x → RuleRow (orEmpty fold rule x)
       go (refused n p) h = h
-      go (accepted es) h = either-rule (eqb (shortest (positions fold es)) 0) (refused 8 (length rule)) (accepted es) (omega arith, omega arith) tt
+      go (accepted es) h = either-rule (eqb (shortest (positions fold es)) 0) (refused admitsEmpty (length rule)) (accepted es) (omega arith, omega arith) tt
 
   pub refusal-row : (longest : ℕ) (rule : List ℕ) (n p : ℕ) → parseWithin longest most fold rule ≡ refused n p → (1 ≤ n) × (n ≤ 8)
   refusal-row longest rule n p q = rw q at (rule-row longest rule)

@@ -2,6 +2,7 @@
 -- are closed cases of them.
 pub mod Ascii
 pub mod Occurrence
+pub mod RefusalNumbers
 pub mod RuleText
 pub mod NumberedAnswers
 pub mod References

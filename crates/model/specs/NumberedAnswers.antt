@@ -5,6 +5,7 @@ use mathlib.Core.List.{List, [], _∷_, _++_}
 use Prim.Native.Nat.{ℕ, zero, suc, pred, _+_}
 use lib.Dec.{leb, ltb, eqb}
 use lib.ListN.{length, drop}
+use Rattle.model.specs.RefusalNumbers.{ruleEmpty, ruleLong, tooManyPositions, admitsEmpty, tooShort, tooMuch}
 use Rattle.model.specs.Occurrence.{Position, shortest}
 use Rattle.model.specs.RuleText.{ruleLimit, positionLimit, Element, positions, size, bad, good, kindAt, oftenAfter, markBytes}
 
@@ -29,7 +30,7 @@ elementsFrom most fold (suc k) place used (c ∷ cs) = elementsFrom most fold k 
 elementsFrom most fold zero place used (c ∷ cs) = elim (kindAt fold (c ∷ cs)) [
   | bad n ↦ refused n place
   | good kind n ↦ elim (leb (used + size kind) most) [
-    | false ↦ refused 7 place
+    | false ↦ refused tooManyPositions place
     | true ↦
         let often = oftenAfter kind (drop n (c ∷ cs)) in
         addElement (record { kind = kind; often = often }) (elementsFrom most fold (pred n + markBytes often) (suc place) (used + size kind) cs)
@@ -39,14 +40,14 @@ elementsFrom most fold zero place used (c ∷ cs) = elim (kindAt fold (c ∷ cs)
 -- Row 8, "place = rule length": "A rule is refused by 8 exactly when every position is optional."
 abbrev pub orEmpty : (fold : Bool) → List ℕ → Parsed → Parsed
 orEmpty fold rule (refused n p) = refused n p
-orEmpty fold rule (accepted es) = cond (eqb (shortest (positions fold es)) 0) (refused 8 (length rule)) (accepted es)
+orEmpty fold rule (accepted es) = cond (eqb (shortest (positions fold es)) 0) (refused admitsEmpty (length rule)) (accepted es)
 
 -- Row 1, "place 0": "rule of length 0". Row 2, "place 255": "rule over 255 bytes". "1 and 2 come first, then the leftmost of 3 to 7 .., then 8." For any
 -- limits of a rule's length and positions, and for those of this paper.
 abbrev pub parseWithin : (longest most : ℕ) (fold : Bool) → List ℕ → Parsed
 parseWithin longest most fold rule =
-    cond (eqb (length rule) 0) (refused 1 0)
-    (cond (ltb longest (length rule)) (refused 2 longest)
+    cond (eqb (length rule) 0) (refused ruleEmpty 0)
+    (cond (ltb longest (length rule)) (refused ruleLong longest)
     (orEmpty fold rule (elementsFrom most fold 0 0 0 rule)))
 
 abbrev pub parse : (fold : Bool) → List ℕ → Parsed
@@ -63,7 +64,7 @@ rulePositions fold rule = positionsBy fold (parse fold rule)
 -- "Whole-text calls check the rule, then 10, then 9": what refuses one whose text has `text` bytes and whose list or buffer `lent` entries, after the rule,
 -- or 0. "Needed lengths: search list, the text's length; decode buffer, the raw length".
 abbrev pub wholeRefusal : (text lent : ℕ) → ℕ
-wholeRefusal text lent = cond (ltb textLimit text) 10 (cond (ltb lent text) 9 0)
+wholeRefusal text lent = cond (ltb textLimit text) tooMuch (cond (ltb lent text) tooShort 0)
 
 -- "Past the reported entries a list is untouched too": a lent list or buffer at exit, where it reports `entries`.
 abbrev pub overwrite : (lent entries : List ℕ) → List ℕ

@@ -5,6 +5,7 @@ use Prim.Native.Nat.{ℕ, zero, suc, _+_, _-_}
 use lib.Dec.{ltb}
 use lib.ListN.{length}
 use Rattle.model.specs.Occurrence.{Position, isEnd, allFrom}
+use Rattle.model.specs.RefusalNumbers.{tooShort, tooMuch, alreadyFinished}
 use Rattle.model.specs.RuleText.{foldFlag}
 use Rattle.model.specs.NumberedAnswers.{textLimit, rulePositions}
 use Rattle.model.specs.References.{formLimit, heldMost, decode, letOut}
@@ -46,9 +47,9 @@ needed limit piece = piece + heldMost limit
 -- needed": the number for a piece and a list of these lengths after `taken` bytes, or 0.
 abbrev pub refusalFor : (limit : ℕ) (finished : Bool) (taken piece list : ℕ) → ℕ
 refusalFor limit finished taken piece list =
-    cond finished 12
-    (cond (ltb textLimit (taken + piece)) 10
-    (cond (ltb list (needed limit piece)) 9
+    cond finished alreadyFinished
+    (cond (ltb textLimit (taken + piece)) tooMuch
+    (cond (ltb list (needed limit piece)) tooShort
     0))
 
 abbrev pub refusal : (limit : ℕ) (finished : Bool) (taken : ℕ) → Call → ℕ

@@ -5,6 +5,7 @@ use mathlib.Core.List.{List, [], _∷_, _++_}
 use Prim.Native.Nat.{ℕ, zero, suc, pred, _+_, _-_, _*_}
 use lib.Dec.{leb, ltb, eqb}
 use lib.ListN.{drop, replicate}
+use Rattle.model.specs.RefusalNumbers.{classFault, gapFault, markFault, byteFault}
 use Rattle.model.specs.Ascii.{byteOf, ascii}
 use Rattle.model.specs.Occurrence.{Position}
 
@@ -187,12 +188,12 @@ someBelow s (suc n) = s n || someBelow s n
 
 -- Row 3: "class unclosed, empty, with a reversed range, a bad `\` or misplaced `-`, or left with no byte". After the `[`; "a first `^` turns it round".
 abbrev pub classOf : (fold turned : Bool) → Items → ReadKind
-classOf fold turned faulty = bad 3
-classOf fold turned (items [] n) = bad 3
-classOf fold turned (items (r ∷ rs) n) = cond (someBelow (kindSet fold (class turned (r ∷ rs))) 256) (good (class turned (r ∷ rs)) n) (bad 3)
+classOf fold turned faulty = bad classFault
+classOf fold turned (items [] n) = bad classFault
+classOf fold turned (items (r ∷ rs) n) = cond (someBelow (kindSet fold (class turned (r ∷ rs))) 256) (good (class turned (r ∷ rs)) n) (bad classFault)
 
 abbrev pub classAt : (fold : Bool) → List ℕ → ReadKind
-classAt fold [] = bad 3
+classAt fold [] = bad classFault
 classAt fold (c ∷ cs) = cond (eqb c (byteOf "^")) (classOf fold true (itemsFrom 0 2 cs)) (classOf fold false (itemsFrom 0 1 (c ∷ cs)))
 
 -- "each bound one or two decimal digits": its value, and how many bytes spell it, 0 where no digit stands.
@@ -225,23 +226,23 @@ gapAt cs =
     cond
     (leb 1 (a .bytes) && startsWith (byteOf ",") after-a && leb 1 (b .bytes) && startsWith (byteOf "}") after-b && leb (a .value) (b .value) && leb 1 (b .value))
     (good (gap (a .value) (b .value)) (a .bytes + b .bytes + 3))
-    (bad 4)
+    (bad gapFault)
 
 -- After the `\`. Row 6: "outside a class: bad or last `\`".
 abbrev pub escapeAt : List ℕ → ReadKind
-escapeAt [] = bad 6
-escapeAt (c ∷ cs) = cond (mayEscape c) (good (byte c) 2) (bad 6)
+escapeAt [] = bad byteFault
+escapeAt (c ∷ cs) = cond (mayEscape c) (good (byte c) 2) (bad byteFault)
 
 -- Any element. "Any byte but a mark stands for itself." Row 5: "`?`, `+`, `*` first, after a gap, or after another of them"; row 6: "or stray `]` or `}`".
 abbrev pub kindAt : (fold : Bool) → List ℕ → ReadKind
-kindAt fold [] = bad 6
+kindAt fold [] = bad byteFault
 kindAt fold (c ∷ cs) =
     cond (eqb c (byteOf ".")) (good any 1)
     (cond (eqb c (byteOf "[")) (classAt fold cs)
     (cond (eqb c (byteOf "{")) (gapAt cs)
     (cond (eqb c (byteOf "\\")) (escapeAt cs)
-    (cond (oneOf (ascii "?+*") c) (bad 5)
-    (cond (oneOf (ascii "]}") c) (bad 6)
+    (cond (oneOf (ascii "?+*") c) (bad markFault)
+    (cond (oneOf (ascii "]}") c) (bad byteFault)
     (good (byte c) 1))))))
 
 -- ---- its mark of how often

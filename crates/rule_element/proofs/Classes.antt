@@ -11,6 +11,7 @@ use lib.ListN.{length, getD, drop}
 use lib.Seq.{drop-cons}
 use lib.Dec.{eqb, leb}
 use borrow.Author.Tests.{eq-eqb, ne-eqb}
+use Rattle.model.specs.RefusalNumbers.{classFault}
 use Rattle.model.specs.RuleText as Model
 use Rattle.model.specs.RuleText.{noEnd, anEnd, closes, misfit, item, faulty, items, bad, good, class, endAt, itemAt, itemFrom, rangeFrom, rangeTo, itemsFrom, classOf, classAt, kindSet, someBelow}
 use Rattle.rule_element.specs.declared.Close.the-variants.{Wrong as NoClose, At}
@@ -76,10 +77,10 @@ items-missed faulty r q e = refl
 items-missed (items rs n) r q e = let z : _≡_ {A = ℕ} 0 1 = cc in clash z
 
 module _ (fold : Bool) (used : ℕ) (turned : Bool) (s : List ℕ) (from p : ℕ) (ep : p ≡ getD s from 0) where
-  no-class : (r : KindResult) → r ≡ refusedKind 3 → classOf fold turned (itemsFrom 0 from (drop from s)) ≡ bad 3 → ReadsClass fold used turned s from r
+  no-class : (r : KindResult) → r ≡ refusedKind classFault → classOf fold turned (itemsFrom 0 from (drop from s)) ≡ bad classFault → ReadsClass fold used turned s from r
   no-class r q e = record { is = q ∙ sym (ap (kindAnswerBy fold used 0) e); moves = rw q tt }
 
-  pub class-empty : p ≡ 93 → (r : KindResult) → r ≡ refusedKind 3 → ReadsClass fold used turned s from r
+  pub class-empty : p ≡ 93 → (r : KindResult) → r ≡ refusedKind classFault → ReadsClass fold used turned s from r
   class-empty e r q = no-class r q (ap (classOf fold turned) (ap (itemsFrom 0 from) d ∙ u))
     where
       d : drop from s ≡ getD s from 0 ∷ drop (suc from) s
@@ -92,7 +93,7 @@ module _ (fold : Bool) (used : ℕ) (turned : Bool) (s : List ℕ) (from p : ℕ
       u = rw (t, itemsFrom)
 
   module _ (h : p ≡ 93 → ⊥) (i : Items) (ri : ReadsItems s from i) where
-    pub class-open : i .close ≡ NoClose → (r : KindResult) → r ≡ refusedKind 3 → ReadsClass fold used turned s from r
+    pub class-open : i .close ≡ NoClose → (r : KindResult) → r ≡ refusedKind classFault → ReadsClass fold used turned s from r
     class-open e r q = no-class r q (ap (classOf fold turned) (items-missed (itemsFrom 0 from (drop from s)) i (ri .is) e))
 
     module _ (next : ℕ) (e : i .close ≡ At next) (t : List ℕ) (et : t ≡ turn turned (widen fold (i .set))) (m : Bool) (em : m ≡ isEmpty t) where
@@ -115,10 +116,10 @@ module _ (fold : Bool) (used : ℕ) (turned : Bool) (s : List ℕ) (from p : ℕ
       is-set : t ≡ turn turned (widen fold (addRanges none (some .0 ∷ some .1)))
       is-set = et ∙ ap (λ (w : List ℕ). turn turned (widen fold w)) (found .2 ∙ ap (addRanges none) (some .2))
 
-      tested : (b : Bool) → someBelow (kindSet fold (class turned (some .0 ∷ some .1))) 256 ≡ b → classOf fold turned (itemsFrom 0 from (drop from s)) ≡ cond b (good (class turned (some .0 ∷ some .1)) next) (bad 3)
-      tested b q = ap (classOf fold turned) is-items ∙ ap (λ (x : Bool). cond x (good (class turned (some .0 ∷ some .1)) next) (bad 3)) q
+      tested : (b : Bool) → someBelow (kindSet fold (class turned (some .0 ∷ some .1))) 256 ≡ b → classOf fold turned (itemsFrom 0 from (drop from s)) ≡ cond b (good (class turned (some .0 ∷ some .1)) next) (bad classFault)
+      tested b q = ap (classOf fold turned) is-items ∙ ap (λ (x : Bool). cond x (good (class turned (some .0 ∷ some .1)) next) (bad classFault)) q
 
-      pub class-bare : m ≡ true → (r : KindResult) → r ≡ refusedKind 3 → ReadsClass fold used turned s from r
+      pub class-bare : m ≡ true → (r : KindResult) → r ≡ refusedKind classFault → ReadsClass fold used turned s from r
       class-bare y r q =
           no-class r q
           (tested false
@@ -173,7 +174,7 @@ class-later fold used at t faulty = refl
 class-later fold used at t (items [] n) = refl
 class-later fold used at t (items (r ∷ rs) n) = go (someBelow (kindSet fold (class t (r ∷ rs))) 256)
   where
-    go : (b : Bool) → kindAnswerBy fold used 0 (cond b (good (class t (r ∷ rs)) (at + n)) (bad 3)) ≡ kindAnswerBy fold used at (cond b (good (class t (r ∷ rs)) n) (bad 3))
+    go : (b : Bool) → kindAnswerBy fold used 0 (cond b (good (class t (r ∷ rs)) (at + n)) (bad classFault)) ≡ kindAnswerBy fold used at (cond b (good (class t (r ∷ rs)) n) (bad classFault))
     go true = ap (λ (j : ℕ). record { answer = Spelt (Class used) j; set = setOf fold (class t (r ∷ rs)) }) (zero-add (at + n))
     go false = refl
 

@@ -7,6 +7,7 @@ use native.Mathlib.Omega.{arith}
 use native.Mathlib.Decide.{decLe}
 use lib.ListN.{length, drop}
 use borrow.Author.Tests.{le-leb, lt-leb}
+use Rattle.model.specs.RefusalNumbers.{tooManyPositions}
 use Rattle.model.specs.RuleText as Model
 use Rattle.model.specs.RuleText.{bad, good, byte, any, class, gap, kindAt, once, optional, repeatable, both, oftenAfter, markBytes, positionLimit}
 use Rattle.rule_element.specs.declared.Kind.{Kind}
@@ -96,7 +97,7 @@ module _ (fold : Bool) (used : ℕ) (s : List ℕ) (at : ℕ) (k : KindResult) (
       is-size : m ≡ Model.size (got .model)
       is-size = em ∙ ap sizeOf (got .is-kind) ∙ size-same used (got .model)
 
-      pub element-over : positionLimit - used < m → (r : ElementResult) → r ≡ noElement 7 → ReadsElement fold used s at r
+      pub element-over : positionLimit - used < m → (r : ElementResult) → r ≡ noElement tooManyPositions → ReadsElement fold used s at r
       element-over o r q = no-read 7 r q (rw (got .is, lt-leb (used + Model.size (got .model)) positionLimit (omega (arith, is-size))))
 
       module _ (o : m ≤ positionLimit - used) (f : Often) (ef : f ≡ oftenBy kind (markAt s after)) (b : ℕ) (eb : b ≡ bytesOf f) where

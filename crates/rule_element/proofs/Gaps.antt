@@ -11,6 +11,7 @@ use lib.ListN.{length, getD, drop}
 use lib.Seq.{drop-drop}
 use lib.Dec.{eqb, leb}
 use borrow.Author.Tests.{eq-eqb, ne-eqb, lt-ltb, le-ltb, le-leb, lt-leb}
+use Rattle.model.specs.RefusalNumbers.{gapFault}
 use Rattle.model.specs.RuleText as Model
 use Rattle.model.specs.RuleText.{bad, good, gap, boundAt, isDecimal, startsWith, gapAt}
 use Rattle.rule_element.specs.declared.Bound.{Bound}
@@ -160,7 +161,7 @@ gap-same fold used at cs =
     go (leb 1 (a .bytes) && startsWith 44 after-a && leb 1 (b .bytes) && startsWith 125 after-b && leb (a .value) (b .value) && leb 1 (b .value))
     (a .value) (b .value) (a .bytes + b .bytes + 3)
   where
-    go : (t : Bool) (a b n : ℕ) → kindAnswerBy false 0 at (cond t (good (gap a b) n) (bad 4)) ≡ kindAnswerBy fold used at (cond t (good (gap a b) n) (bad 4))
+    go : (t : Bool) (a b n : ℕ) → kindAnswerBy false 0 at (cond t (good (gap a b) n) (bad gapFault)) ≡ kindAnswerBy fold used at (cond t (good (gap a b) n) (bad gapFault))
     go true a b n = refl
     go false a b n = refl
 
@@ -169,7 +170,7 @@ gapWith a x b y =
     cond
     (leb 1 (a .bytes) && startsWith 44 x && leb 1 (b .bytes) && startsWith 125 y && leb (a .value) (b .value) && leb 1 (b .value))
     (good (gap (a .value) (b .value)) (a .bytes + b .bytes + 3))
-    (bad 4)
+    (bad gapFault)
 
 module _ (s : List ℕ) (at : ℕ) (h : at < length s) (ra : Bound) (rc : ReadsBound s (at + 1) ra) where
   a : Model.Bound
@@ -207,20 +208,20 @@ module _ (s : List ℕ) (at : ℕ) (h : at < length s) (ra : Bound) (rc : ReadsB
       ≡ cond
       (leb 1 (a .bytes) && eqb (getD s (ra .next) 0) 44 && leb 1 (b .bytes) && eqb (getD s (ra .next + 1 + b .bytes) 0) 125 && leb (a .value) (b .value) && leb 1 (b .value))
       (good (gap (a .value) (b .value)) (a .bytes + b .bytes + 3))
-      (bad 4)
+      (bad gapFault)
   shape = rw (by-bounds, starts-at 44 (ra .next) (λ e. absurd (omega arith)), starts-at 125 (ra .next + 1 + b .bytes) (λ e. absurd (omega arith)))
 
-  no-gap : (r : KindResult) → r ≡ refusedKind 4 → gapAt (drop (suc at) s) ≡ bad 4 → ReadsGap s at r
+  no-gap : (r : KindResult) → r ≡ refusedKind gapFault → gapAt (drop (suc at) s) ≡ bad gapFault → ReadsGap s at r
   no-gap r q e = record { is = q ∙ sym (ap (kindAnswerBy false 0 at) e); moves = rw q tt }
 
-  pub gap-bare : ra .next ≡ at + 1 → (r : KindResult) → r ≡ refusedKind 4 → ReadsGap s at r
+  pub gap-bare : ra .next ≡ at + 1 → (r : KindResult) → r ≡ refusedKind gapFault → ReadsGap s at r
   gap-bare e r q = no-gap r q (rw (shape, lt-leb 1 (a .bytes) (omega (arith, next-a))))
 
   module _ (n1 : ra .next ≡ at + 1 → ⊥) (p : ℕ) (ep : p ≡ getD s (ra .next) 0) where
     some-a : leb 1 (a .bytes) ≡ true
     some-a = le-leb 1 (a .bytes) (let z : a .bytes ≡ 0 → ⊥ = λ e. n1 (omega (arith, next-a)) in omega arith)
 
-    pub gap-comma : (p ≡ 44 → ⊥) → (r : KindResult) → r ≡ refusedKind 4 → ReadsGap s at r
+    pub gap-comma : (p ≡ 44 → ⊥) → (r : KindResult) → r ≡ refusedKind gapFault → ReadsGap s at r
     gap-comma n r q = no-gap r q (rw (shape, some-a, ← ep, ne-eqb _ _ n))
 
     module _ (e2 : p ≡ 44) (rb : Bound) (rd : ReadsBound s (ra .next + 1) rb) where
@@ -234,7 +235,7 @@ module _ (s : List ℕ) (at : ℕ) (h : at < length s) (ra : Bound) (rc : ReadsB
       next-b : rb .next ≡ ra .next + 1 + b .bytes
       next-b = ap (λ (x : Bound). x .next) is-b
 
-      pub gap-bare-2 : rb .next ≡ ra .next + 1 → (r : KindResult) → r ≡ refusedKind 4 → ReadsGap s at r
+      pub gap-bare-2 : rb .next ≡ ra .next + 1 → (r : KindResult) → r ≡ refusedKind gapFault → ReadsGap s at r
       gap-bare-2 e r q = no-gap r q (rw (shape, some-a, ← ep, eq-eqb _ _ e2, lt-leb 1 (b .bytes) (omega (arith, next-b))))
 
       module _ (n3 : rb .next ≡ ra .next + 1 → ⊥) (u : ℕ) (eu : u ≡ getD s (rb .next) 0) where
@@ -244,15 +245,15 @@ module _ (s : List ℕ) (at : ℕ) (h : at < length s) (ra : Bound) (rc : ReadsB
         byte-b : getD s (ra .next + 1 + b .bytes) 0 ≡ u
         byte-b = ap (λ (j : ℕ). getD s j 0) (sym next-b) ∙ sym eu
 
-        pub gap-brace : (u ≡ 125 → ⊥) → (r : KindResult) → r ≡ refusedKind 4 → ReadsGap s at r
+        pub gap-brace : (u ≡ 125 → ⊥) → (r : KindResult) → r ≡ refusedKind gapFault → ReadsGap s at r
         gap-brace n r q = no-gap r q (rw (shape, some-a, ← ep, eq-eqb _ _ e2, some-b, byte-b, ne-eqb _ _ n))
 
         module _ (e4 : u ≡ 125) where
-          pub gap-reversed : rb .value < ra .value → (r : KindResult) → r ≡ refusedKind 4 → ReadsGap s at r
+          pub gap-reversed : rb .value < ra .value → (r : KindResult) → r ≡ refusedKind gapFault → ReadsGap s at r
           gap-reversed o r q = no-gap r q (rw (shape, some-a, ← ep, eq-eqb _ _ e2, some-b, byte-b, eq-eqb _ _ e4, lt-leb (a .value) (b .value) (omega (arith, value-a, value-b))))
 
           module _ (o : ra .value ≤ rb .value) where
-            pub gap-zero : rb .value ≡ 0 → (r : KindResult) → r ≡ refusedKind 4 → ReadsGap s at r
+            pub gap-zero : rb .value ≡ 0 → (r : KindResult) → r ≡ refusedKind gapFault → ReadsGap s at r
             gap-zero z r q =
                 no-gap r q
                 (rw (shape, some-a, ← ep, eq-eqb _ _ e2, some-b, byte-b, eq-eqb _ _ e4, le-leb (a .value) (b .value) (omega (arith, value-a, value-b)), lt-leb 1 (b .value) (omega (arith, value-b))))

@@ -8,6 +8,7 @@ use native.Mathlib.Nat.{add-zero}
 use lib.ListN.{length, getD, drop}
 use lib.Seq.{drop-cons}
 use borrow.Author.Tests.{eq-eqb, ne-eqb}
+use Rattle.model.specs.RefusalNumbers.{markFault, byteFault}
 use Rattle.model.specs.RuleText as Model
 use Rattle.model.specs.RuleText.{noEnd, anEnd, bad, good, byte, escapedEnd, escapeAt, kindAt, oftenAt}
 use Rattle.rule_element.specs.declared.Kind.{Kind}
@@ -26,7 +27,7 @@ use Rattle.rule_element.proofs.Gaps.{byte-at, gap-same}
 -- ---- any kind
 
 abbrev kindOfEnd : Model.ReadEnd → Model.ReadKind
-kindOfEnd noEnd = bad 6
+kindOfEnd noEnd = bad byteFault
 kindOfEnd (anEnd c n) = good (byte c) n
 
 module _ (fold : Bool) (used : ℕ) (s : List ℕ) (at : ℕ) (h : at < length s) where
@@ -60,14 +61,14 @@ module _ (fold : Bool) (used : ℕ) (s : List ℕ) (at : ℕ) (h : at < length s
           escape-as [] = refl
           escape-as (x ∷ l) = go (Model.mayEscape x)
             where
-              go : (y : Bool) → kindOfEnd (cond y (anEnd x 2) noEnd) ≡ cond y (good (byte x) 2) (bad 6)
+              go : (y : Bool) → kindOfEnd (cond y (anEnd x 2) noEnd) ≡ cond y (good (byte x) 2) (bad byteFault)
               go true = refl
               go false = refl
 
           by-escape : kindAt fold (drop at s) ≡ kindOfEnd (escapedEnd cs)
           by-escape = rw (here, ne-eqb _ _ n1, ne-eqb _ _ n2, ne-eqb _ _ n3, eq-eqb _ _ e) (sym (escape-as cs))
 
-          pub kind-no-escape : b ≡ Wrong → (r : KindResult) → r ≡ refusedKind 6 → ReadsKind fold used s at r
+          pub kind-no-escape : b ≡ Wrong → (r : KindResult) → r ≡ refusedKind byteFault → ReadsKind fold used s at r
           kind-no-escape f r q = no-kind 6 r q (by-escape ∙ ap kindOfEnd (end-missed at (escapedEnd cs) (sym f ∙ rb .is)))
 
           pub kind-escape : (v next : ℕ) → b ≡ Byte v next → (r : KindResult) → r ≡ plainOf v next → ReadsKind fold used s at r
@@ -80,24 +81,24 @@ module _ (fold : Bool) (used : ℕ) (s : List ℕ) (at : ℕ) (h : at < length s
               }
 
         module _ (n4 : c ≡ 92 → ⊥) where
-          pub kind-question : c ≡ 63 → (r : KindResult) → r ≡ refusedKind 5 → ReadsKind fold used s at r
+          pub kind-question : c ≡ 63 → (r : KindResult) → r ≡ refusedKind markFault → ReadsKind fold used s at r
           kind-question e r q = no-kind 5 r q (rw (here, ne-eqb _ _ n1, ne-eqb _ _ n2, ne-eqb _ _ n3, ne-eqb _ _ n4, eq-eqb _ _ e))
 
           module _ (n5 : c ≡ 63 → ⊥) where
-            pub kind-plus : c ≡ 43 → (r : KindResult) → r ≡ refusedKind 5 → ReadsKind fold used s at r
+            pub kind-plus : c ≡ 43 → (r : KindResult) → r ≡ refusedKind markFault → ReadsKind fold used s at r
             kind-plus e r q = no-kind 5 r q (rw (here, ne-eqb _ _ n1, ne-eqb _ _ n2, ne-eqb _ _ n3, ne-eqb _ _ n4, ne-eqb _ _ n5, eq-eqb _ _ e))
 
             module _ (n6 : c ≡ 43 → ⊥) where
-              pub kind-star : c ≡ 42 → (r : KindResult) → r ≡ refusedKind 5 → ReadsKind fold used s at r
+              pub kind-star : c ≡ 42 → (r : KindResult) → r ≡ refusedKind markFault → ReadsKind fold used s at r
               kind-star e r q = no-kind 5 r q (rw (here, ne-eqb _ _ n1, ne-eqb _ _ n2, ne-eqb _ _ n3, ne-eqb _ _ n4, ne-eqb _ _ n5, ne-eqb _ _ n6, eq-eqb _ _ e))
 
               module _ (n7 : c ≡ 42 → ⊥) where
-                pub kind-bracket : c ≡ 93 → (r : KindResult) → r ≡ refusedKind 6 → ReadsKind fold used s at r
+                pub kind-bracket : c ≡ 93 → (r : KindResult) → r ≡ refusedKind byteFault → ReadsKind fold used s at r
                 kind-bracket e r q =
                     no-kind 6 r q (rw (here, ne-eqb _ _ n1, ne-eqb _ _ n2, ne-eqb _ _ n3, ne-eqb _ _ n4, ne-eqb _ _ n5, ne-eqb _ _ n6, ne-eqb _ _ n7, eq-eqb _ _ e))
 
                 module _ (n8 : c ≡ 93 → ⊥) where
-                  pub kind-brace : c ≡ 125 → (r : KindResult) → r ≡ refusedKind 6 → ReadsKind fold used s at r
+                  pub kind-brace : c ≡ 125 → (r : KindResult) → r ≡ refusedKind byteFault → ReadsKind fold used s at r
                   kind-brace e r q =
                       no-kind 6 r q
                       (rw (here, ne-eqb _ _ n1, ne-eqb _ _ n2, ne-eqb _ _ n3, ne-eqb _ _ n4, ne-eqb _ _ n5, ne-eqb _ _ n6, ne-eqb _ _ n7, ne-eqb _ _ n8, eq-eqb _ _ e))

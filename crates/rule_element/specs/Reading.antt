@@ -6,6 +6,7 @@ use mathlib.Core.List.{List}
 use Prim.Native.Nat.{ℕ, suc, _+_, _-_, _≤_, _<_}
 use lib.ListN.{length, drop}
 use lib.Dec.{leb, ltb}
+use Rattle.model.specs.RefusalNumbers.{tooManyPositions}
 use Rattle.model.specs.RuleText as Model
 use Rattle.model.specs.RuleText.{noEnd, anEnd, closes, misfit, item, faulty, items, bad, good, byte, any, class, gap, once, optional, repeatable, both, endAt, escapedEnd, itemAt, itemsFrom, boundAt, classOf, kindAt, oftenAt, oftenAfter, markBytes, positionLimit}
 use Rattle.rule_element.specs.declared.ClassByte.{ClassByte}
@@ -196,7 +197,7 @@ elementOf fold used at k n o = record { answer = Got (record { kind = kindOf use
 
 abbrev pub readBy : (fold : Bool) (used : ℕ) (s : List ℕ) (at : ℕ) → Model.ReadKind → ElementResult
 readBy fold used s at (bad n) = noElement n
-readBy fold used s at (good k n) = cond (leb (used + Model.size k) positionLimit) (elementOf fold used at k n (oftenAfter k (drop (at + n) s))) (noElement 7)
+readBy fold used s at (good k n) = cond (leb (used + Model.size k) positionLimit) (elementOf fold used at k n (oftenAfter k (drop (at + n) s))) (noElement tooManyPositions)
 
 pub record ElementMoves (used : ℕ) (s : List ℕ) (at : ℕ) (e : Element) (next : ℕ) : Type 0 where
   pub ahead : at + bytesOf (e .often) < next

@@ -10,6 +10,7 @@ use lib.Seq.{drop-cons, drop-drop}
 use lib.Dec.{leb}
 use lib.Bits.{or-lt, or-shifted-r}
 use lib.Pow.{pow-add, pow-mono, shl-lt, shl-exact}
+use Rattle.model.specs.RefusalNumbers.{tooManyPositions}
 use Rattle.model.specs.Occurrence.{Position}
 use Rattle.model.specs.RuleText as Model
 use Rattle.model.specs.RuleText.{positionLimit, bad, good, positions, kindPositions, kindAt, oftenAfter, markBytes}
@@ -77,7 +78,7 @@ module _ (fold : Bool) (used : ℕ) (s : List ℕ) (at : ℕ) where
               room : (b : Bool) → leb (used + Model.size d) positionLimit ≡ b → elementsFrom positionLimit fold 0 at used (drop at s) ≡ refused n at
               room true b = let f : r ≡ elementOf fold used at d m (oftenAfter d (drop (at + m) s)) = rc .is ∙ ap (readBy fold used s at) q ∙ rw b in let z : _≡_ {A = ℕ} 0 1 = cc in absurd (omega arith)
               room false b =
-                  let f : r ≡ noElement 7 = rc .is ∙ ap (readBy fold used s at) q ∙ rw b in
+                  let f : r ≡ noElement tooManyPositions = rc .is ∙ ap (readBy fold used s at) q ∙ rw b in
                   let z : 7 ≡ n = cc in
                   ap (elementsFrom positionLimit fold 0 at used) here ∙ elements-over positionLimit fold (getD s at 0) (drop (suc at) s) at used m d (ap (kindAt fold) (sym here) ∙ q) b ∙ ap (λ (y : ℕ). refused y at) z
 
@@ -100,7 +101,7 @@ module _ (fold : Bool) (used : ℕ) (s : List ℕ) (at : ℕ) where
             go (good d m) q = room (leb (used + Model.size d) positionLimit) refl
               where
                 room : (b : Bool) → leb (used + Model.size d) positionLimit ≡ b → Found
-                room false b = let f : r ≡ noElement 7 = rc .is ∙ ap (readBy fold used s at) q ∙ rw b in let z : _≡_ {A = ℕ} 0 1 = cc in absurd (omega arith)
+                room false b = let f : r ≡ noElement tooManyPositions = rc .is ∙ ap (readBy fold used s at) q ∙ rw b in let z : _≡_ {A = ℕ} 0 1 = cc in absurd (omega arith)
                 room true b =
                     let o = oftenAfter d (drop (at + m) s) in
                     let f : r ≡ elementOf fold used at d m o = rc .is ∙ ap (readBy fold used s at) q ∙ rw b in

@@ -11,6 +11,7 @@ use lib.Bits.{bitOr, or-zero-r, or-shifted}
 use lib.Pow.{pow-add, pow-pos, shl-lt, shl-exact}
 use lib.Dec.{eqb, ltb}
 use borrow.Author.Tests.{lt-ltb}
+use Rattle.model.specs.RefusalNumbers.{ruleEmpty, ruleLong, admitsEmpty}
 use Rattle.model.specs.Occurrence.{Position, oneIf, shortest}
 use Rattle.model.specs.RuleText as Model
 use Rattle.model.specs.RuleText.{foldFlag, ruleLimit, positionLimit, byte, any, class, gap, once, optional, position, positions, kindPositions, kindSet, isByte}
@@ -185,14 +186,14 @@ accepts fold s z = go (parse fold s) refl
     inner es (refused n p) q = clash q
     inner es (accepted fs) q = by (eqb (shortest (positions fold fs)) 0) q
       where
-        by : (b : Bool) → cond b (refused 8 (length s)) (accepted fs) ≡ accepted es → accepted fs ≡ accepted es
+        by : (b : Bool) → cond b (refused admitsEmpty (length s)) (accepted fs) ≡ accepted es → accepted fs ≡ accepted es
         by true q = clash q
         by false q = q
 
     reads-of : (es : List Model.Element) → parse fold s ≡ accepted es → elementsFrom positionLimit fold 0 0 0 s ≡ accepted es
     reads-of es q = one (eqb (length s) 0) (ltb ruleLimit (length s)) q
       where
-        one : (b d : Bool) → cond b (refused 1 0) (cond d (refused 2 ruleLimit) (orEmpty fold s (elementsFrom positionLimit fold 0 0 0 s))) ≡ accepted es → elementsFrom positionLimit fold 0 0 0 s ≡ accepted es
+        one : (b d : Bool) → cond b (refused ruleEmpty 0) (cond d (refused ruleLong ruleLimit) (orEmpty fold s (elementsFrom positionLimit fold 0 0 0 s))) ≡ accepted es → elementsFrom positionLimit fold 0 0 0 s ≡ accepted es
         one true d q = clash q
         one false true q = clash q
         one false false q = inner es (elementsFrom positionLimit fold 0 0 0 s) q

@@ -7,6 +7,7 @@ use lib.Dec.{eqb}
 use lib.ListN.{length}
 use lib.Seq.{sets}
 use Rattle.model.specs.Occurrence.{Position, shortest}
+use Rattle.model.specs.RefusalNumbers.{impossible}
 use Rattle.model.specs.RuleText.{foldFlag, positions}
 use Rattle.model.specs.NumberedAnswers.{Parsed, refused, accepted, parse}
 use Rattle.model.specs.References.{formLimit, heldMost}
@@ -31,7 +32,7 @@ abbrev pub openAnswer : (n : ℕ) (ps : List Position) → Opened
 openAnswer n ps =
     cond (eqb n scanLength)
     (record { number = 0; place = 0; positions = length ps; shortest = shortest ps })
-    (record { number = 11; place = 0; positions = 0; shortest = 0 })
+    (record { number = impossible; place = 0; positions = 0; shortest = 0 })
 
 abbrev pub answerBy : (flag n : ℕ) → Parsed → Opened
 answerBy flag n (refused number place) = record { number = number; place = place; positions = 0; shortest = 0 }

@@ -7,6 +7,7 @@ use Prim.Native.Nat.{ℕ, zero, suc, _+_, _≤_, _<_}
 use lib.Dec.{eqb, leb, ltb}
 use lib.ListN.{length, getD, take, drop}
 use lib.Seq.{sets}
+use Rattle.model.specs.RefusalNumbers.{impossible}
 use Rattle.model.specs.RuleText.{positionLimit}
 use Rattle.model.specs.NumberedAnswers.{textLimit}
 use Rattle.model.specs.References.{formLimit, heldMost, heldTail, canGrow}
@@ -158,7 +159,7 @@ pub record HeldFits (h : Held) : Type 0 where
 
 -- "a scan call checks 11, 12, 10, 9": for a piece of p bytes and a list of n entries; 0 if nothing refuses it
 unfoldable pub numberFor : List ℕ → (p n : ℕ) → ℕ
-numberFor s p n = cond (possible s) (refusalFor formLimit (ltb 0 (finishedIn s)) (rawIn s) p n) 11
+numberFor s p n = cond (possible s) (refusalFor formLimit (ltb 0 (finishedIn s)) (rawIn s) p n) impossible
 
 -- What holds if nothing refuses it.
 pub record Fine (s : List ℕ) (p n : ℕ) : Type 0 where

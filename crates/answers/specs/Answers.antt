@@ -1,0 +1,18 @@
+-- The answers of the calls: a refusal, or a finished result. Assumes nothing.
+use Prim.Native.Nat.{ℕ}
+use Rattle.answers.specs.declared.Answer.{Answer}
+use Rattle.answers.specs.declared.Opened.{Opened}
+
+-- "Every refusal has zero counts beside its number and place, place 0 where none is given"
+abbrev pub refusing : (number place : ℕ) → Answer
+refusing n p = record { number = n; place = p; count = 0; windows = 0 }
+
+abbrev pub counting : (count windows : ℕ) → Answer
+counting c w = record { number = 0; place = 0; count = c; windows = w }
+
+-- the same of a rule that is prepared or opened
+abbrev pub notOpened : (number place : ℕ) → Opened
+notOpened n p = record { number = n; place = p; positions = 0; shortest = 0 }
+
+abbrev pub opening : (positions shortest : ℕ) → Opened
+opening n m = record { number = 0; place = 0; positions = n; shortest = m }

@@ -1,0 +1,113 @@
+// What the calls answer a host, and the numbers of their refusals (document 01, "Numbered answers"). `model` has
+// the same numbers, and the header for a host.
+ghost use mathlib.Core.Path.{_≡_};
+ghost use Rattle.answers.specs.Answers.{refusing, counting, notOpened, opening};
+
+// "rule of length 0"
+pub const RULE_EMPTY: u32 = 1;
+
+// "rule over 255 bytes"
+pub const RULE_LONG: u32 = 2;
+
+// "class unclosed, empty, with a reversed range, a bad `\` or misplaced `-`, or left with no byte"
+pub const CLASS_FAULT: u32 = 3;
+
+// "gap not of the given form, a > b, or b = 0"
+pub const GAP_FAULT: u32 = 4;
+
+// "`?`, `+`, `*` first, after a gap, or after another of them"
+pub const MARK_FAULT: u32 = 5;
+
+// "outside a class: bad or last `\`, or stray `]` or `}`"
+pub const BYTE_FAULT: u32 = 6;
+
+// "it takes the positions past 63"
+pub const TOO_MANY_POSITIONS: u32 = 7;
+
+// "the empty string is admitted"
+pub const ADMITS_EMPTY: u32 = 8;
+
+// "list or buffer too short"
+pub const TOO_SHORT: u32 = 9;
+
+// "more than 4,294,967,295 bytes in the text, or in all the pieces"
+pub const TOO_MUCH: u32 = 10;
+
+// "impossible scan value"
+pub const IMPOSSIBLE: u32 = 11;
+
+// "scan already finished"
+pub const ALREADY_FINISHED: u32 = 12;
+
+// What a call on a scan or on a whole text answers. `windows` is a search's, and 0 in any other answer.
+#[repr(C)]
+pub struct Answer {
+    pub number: u32,
+    pub place: u32,
+    pub count: u32,
+    pub windows: u32,
+}
+
+// What preparing a rule, or an opening, answers.
+#[repr(C)]
+pub struct Opened {
+    pub number: u32,
+    pub place: u32,
+    pub positions: u32,
+    pub shortest: u32,
+}
+
+// A part of a text, as its two places.
+#[repr(C)]
+pub struct Span {
+    pub from: usize,
+    pub to: usize,
+}
+
+// "Every refusal has zero counts beside its number and place".
+pub fn refused(number: u32, place: u32) -> Answer
+    ensures { λ r. ⌜ r ≡ refusing number place ⌝ }
+{
+    Answer {
+        number: number,
+        place: place,
+        count: 0,
+        windows: 0,
+    }
+}
+
+// A finished result.
+pub fn counted(count: u32, windows: u32) -> Answer
+    ensures { λ r. ⌜ r ≡ counting count windows ⌝ }
+{
+    Answer {
+        number: 0,
+        place: 0,
+        count: count,
+        windows: windows,
+    }
+}
+
+// A rule that is refused.
+pub fn not_opened(number: u32, place: u32) -> Opened
+    ensures { λ r. ⌜ r ≡ notOpened number place ⌝ }
+{
+    Opened {
+        number: number,
+        place: place,
+        positions: 0,
+        shortest: 0,
+    }
+}
+
+// A rule that is accepted.
+pub fn opened(positions: u32, shortest: u32) -> Opened
+    ensures { λ r. ⌜ r ≡ opening positions shortest ⌝ }
+{
+    Opened {
+        number: 0,
+        place: 0,
+        positions: positions,
+        shortest: shortest,
+    }
+}

@@ -1,0 +1,50 @@
+-- Document 01, "Numbered answers": the number of each row, under one name; `answers` has the same for code, and the header for a host. Assumes nothing.
+use Prim.Native.Nat.{ℕ}
+
+-- "rule of length 0"
+abbrev pub ruleEmpty : ℕ
+ruleEmpty = 1
+
+-- "rule over 255 bytes"
+abbrev pub ruleLong : ℕ
+ruleLong = 2
+
+-- "class unclosed, empty, with a reversed range, a bad `\` or misplaced `-`, or left with no byte"
+abbrev pub classFault : ℕ
+classFault = 3
+
+-- "gap not of the given form, a > b, or b = 0"
+abbrev pub gapFault : ℕ
+gapFault = 4
+
+-- "`?`, `+`, `*` first, after a gap, or after another of them"
+abbrev pub markFault : ℕ
+markFault = 5
+
+-- "outside a class: bad or last `\`, or stray `]` or `}`"
+abbrev pub byteFault : ℕ
+byteFault = 6
+
+-- "it takes the positions past 63"
+abbrev pub tooManyPositions : ℕ
+tooManyPositions = 7
+
+-- "the empty string is admitted"
+abbrev pub admitsEmpty : ℕ
+admitsEmpty = 8
+
+-- "list or buffer too short"
+abbrev pub tooShort : ℕ
+tooShort = 9
+
+-- "more than 4,294,967,295 bytes in the text, or in all the pieces"
+abbrev pub tooMuch : ℕ
+tooMuch = 10
+
+-- "impossible scan value"
+abbrev pub impossible : ℕ
+impossible = 11
+
+-- "scan already finished"
+abbrev pub alreadyFinished : ℕ
+alreadyFinished = 12
