@@ -11,8 +11,8 @@ abbrev pub counting : (count windows : ℕ) → Answer
 counting c w = record { number = 0; place = 0; count = c; windows = w }
 
 -- the same of a rule that is prepared or opened
-abbrev pub notOpened : (number place : ℕ) → Opened
-notOpened n p = record { number = n; place = p; positions = 0; shortest = 0 }
+abbrev pub refusingRule : (number place : ℕ) → Opened
+refusingRule n p = record { number = n; place = p; positions = 0; shortest = 0 }
 
-abbrev pub opening : (positions shortest : ℕ) → Opened
-opening n m = record { number = 0; place = 0; positions = n; shortest = m }
+abbrev pub acceptingRule : (positions shortest : ℕ) → Opened
+acceptingRule n m = record { number = 0; place = 0; positions = n; shortest = m }

@@ -1,7 +1,7 @@
 // What the calls answer a host, and the numbers of their refusals (document 01, "Numbered answers"). `model` has
 // the same numbers, and the header for a host.
 ghost use mathlib.Core.Path.{_≡_};
-ghost use Rattle.answers.specs.Answers.{refusing, counting, notOpened, opening};
+ghost use Rattle.answers.specs.Answers.{refusing, counting, refusingRule, acceptingRule};
 
 // "rule of length 0"
 pub const RULE_EMPTY: u32 = 1;
@@ -89,8 +89,8 @@ pub fn counted(count: u32, windows: u32) -> Answer
 }
 
 // A rule that is refused.
-pub fn not_opened(number: u32, place: u32) -> Opened
-    ensures { λ r. ⌜ r ≡ notOpened number place ⌝ }
+pub fn refused_rule(number: u32, place: u32) -> Opened
+    ensures { λ r. ⌜ r ≡ refusingRule number place ⌝ }
 {
     Opened {
         number: number,
@@ -101,8 +101,8 @@ pub fn not_opened(number: u32, place: u32) -> Opened
 }
 
 // A rule that is accepted.
-pub fn opened(positions: u32, shortest: u32) -> Opened
-    ensures { λ r. ⌜ r ≡ opening positions shortest ⌝ }
+pub fn accepted_rule(positions: u32, shortest: u32) -> Opened
+    ensures { λ r. ⌜ r ≡ acceptingRule positions shortest ⌝ }
 {
     Opened {
         number: 0,
