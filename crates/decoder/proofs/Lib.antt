@@ -1,2 +1,2 @@
 -- Laws of the decoder.
-pub mod Tokens
+pub mod DecodeLaws

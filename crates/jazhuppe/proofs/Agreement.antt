@@ -1,6 +1,6 @@
 -- DEMAND 3, one theorem, `agreement`: for an accepted rule and fold flag, and any list of feeds and finishes as they were made. About the very contracts of `open`,
 -- `feed`, `finish` and `search`. Assumes nothing.
-use mathlib.Core.Path.{_≡_, refl, sym, ap, subst, _∙_}
+use mathlib.Core.Path.{_≡_, refl, sym, ap, _∙_}
 use mathlib.Core.Bool.{Bool, true, cond}
 use mathlib.Core.List.{List, [], _∷_}
 use Prim.Native.Nat.{ℕ, zero, suc, _+_, _≤_}
@@ -20,12 +20,13 @@ use Rattle.model.proofs.Decoding.{decode-length}
 use Rattle.model.proofs.Decided as Decided
 use Rattle.model.proofs.FinishedPlan.{plan-ends}
 use Rattle.model.proofs.Windows.{shift-is, windows-are, no-start-passed}
-use Rattle.decoder.specs.declared.Answer.{Answer}
-use Rattle.scan.specs.declared.Opened.{Opened}
-use Rattle.scan.specs.Opening.{OpenIs}
+use Rattle.answers.specs.declared.Answer.{Answer}
+use Rattle.answers.specs.declared.Opened.{Opened}
+use Rattle.answers.specs.Answers.{refusing, counting}
+use Rattle.scan_open.specs.Opening.{OpenIs}
 use Rattle.scan.specs.Calls.{Bytes}
 use Rattle.scan.proofs.PlainScan.{OpenedWith, opened-with}
-use Rattle.jazhuppe.specs.Searching.{answering, searchAnswer, searchList, SearchIs}
+use Rattle.text_search.specs.Searching.{searchAnswer, searchList, SearchIs}
 use Rattle.jazhuppe.specs.Agreement.{Made, HandedOn, callsOf, AllAgree, reportedBy, Finished, planOf, Agreement}
 use Rattle.jazhuppe.proofs.MadeCalls.{made-is-plain, reported-ends, finished-is}
 
@@ -67,12 +68,12 @@ module _ (flag : ℕ) (rule : List ℕ) (bytes : Bytes rule) where
       by-positions : positions (foldFlag flag) (opened .elements) ≡ ps
       by-positions = sym (ap (positionsBy (foldFlag flag)) (opened .parses))
 
-      gives : (r ≡ answering 0 0 (length (starts ps text)) (length (windows ps text))) × (list′ ≡ overwrite list (starts ps text))
+      gives : (r ≡ counting (length (starts ps text)) (length (windows ps text))) × (list′ ≡ overwrite list (starts ps text))
       gives =
           let qs = positions (foldFlag flag) (opened .elements) in (
             x .answers ∙ ap (searchAnswer flag text (length list)) (opened .parses)
-                ∙ ap (λ (b : Bool). cond b (answering 0 0 (length (starts qs text)) (length (windows qs text))) (answering (wholeRefusal (length text) (length list)) 0 0 0)) taken
-                ∙ ap (λ (ps : List Position). answering 0 0 (length (starts ps text)) (length (windows ps text))) by-positions,
+                ∙ ap (λ (b : Bool). cond b (counting (length (starts qs text)) (length (windows qs text))) (refusing (wholeRefusal (length text) (length list)) 0)) taken
+                ∙ ap (λ (ps : List Position). counting (length (starts ps text)) (length (windows ps text))) by-positions,
             x .lists ∙ ap (searchList flag text list) (opened .parses) ∙ ap (λ (b : Bool). cond b (overwrite list (starts qs text)) list) taken
                 ∙ ap (λ (ps : List Position). overwrite list (starts ps text)) by-positions,
           )

@@ -1,5 +1,4 @@
 -- Laws on plain values; each function's own file only cites them.
-pub mod Parts
-pub mod Shows
+pub mod Prepares
 pub mod MadeCalls
 pub mod Agreement

@@ -1,7 +1,7 @@
 -- Calls as they were made, each handed what the one before it left: number, count and as many entries of the lent list are the plain scan's. Assumes nothing.
-use mathlib.Core.Path.{_≡_, refl, sym, ap, ap₂, subst, _∙_}
+use mathlib.Core.Path.{_≡_, refl, ap, ap₂, subst, _∙_}
 use mathlib.Core.Bool.{Bool, true, false, cond}
-use mathlib.Core.Logic.{_⊎_, inl, inr}
+use mathlib.Core.Logic.{inl, inr}
 use mathlib.Core.List.{List, [], _∷_, _++_}
 use Prim.Native.Nat.{ℕ, zero, suc}
 use lib.Dec.{eqb}
@@ -11,12 +11,13 @@ use lib.ListN.{length, take, drop}
 use lib.Seq.{take-append-seam}
 use Rattle.model.specs.NumberedAnswers.{overwrite}
 use Rattle.model.specs.Occurrence.{Position}
+use Rattle.model.specs.RefusalNumbers.{alreadyFinished}
 use Rattle.model.specs.PlainScan as Plain
 use Rattle.model.specs.PlainScan.{Call, pieceOf, listOf, refused, reported, Kept, textOf, refusal, refusalFor, newEnds, scanFrom, plainScan, reportedEnds, keptAfter}
-use Rattle.decoder.specs.declared.Answer.{Answer}
-use Rattle.decoder.specs.Decoder.{refusing, counting}
-use Rattle.scan.specs.declared.Opened.{Opened}
-use Rattle.scan.specs.Opening.{OpenIs}
+use Rattle.answers.specs.declared.Answer.{Answer}
+use Rattle.answers.specs.Answers.{refusing, counting}
+use Rattle.answers.specs.declared.Opened.{Opened}
+use Rattle.scan_open.specs.Opening.{OpenIs}
 use Rattle.scan.specs.Calls.{numberOf, after, CallIs, runFrom, Bytes, PiecesAreBytes}
 use Rattle.scan.specs.Calls as Calls
 use Rattle.scan.proofs.PlainScan.{scan-is-plain}
@@ -48,7 +49,7 @@ agree (c ∷ cs) s m = go (numberOf s call) refl (agree cs)
         let es = Calls.endsOf s call in
         let x : CallIs s call (c .lent) (c .answer) (c .value) (c .list) = met-is (c .request) s (c .lent) (c .answer) (c .value) (c .list) (m .0) in
         let t : eqb (numberOf s call) 0 ≡ true = ap (λ (n : ℕ). eqb n 0) q in
-        let a : c .answer ≡ counting (length es) = x .answers ∙ ap (λ (b : Bool). cond b (counting (length es)) (refusing (numberOf s call))) t in
+        let a : c .answer ≡ counting (length es) 0 = x .answers ∙ ap (λ (b : Bool). cond b (counting (length es) 0) (refusing (numberOf s call) 0)) t in
         let v : c .value ≡ after s call = x .leaves ∙ ap (λ (b : Bool). cond b (after s call) s) t in
         let l : c .list ≡ overwrite (c .lent) es = x .lists ∙ ap (λ (b : Bool). cond b (overwrite (c .lent) es) (c .lent)) t in
         let k : endsOf c ≡ es =
@@ -57,8 +58,8 @@ agree (c ∷ cs) s m = go (numberOf s call) refl (agree cs)
     go (suc n) q ih =
         let x : CallIs s call (c .lent) (c .answer) (c .value) (c .list) = met-is (c .request) s (c .lent) (c .answer) (c .value) (c .list) (m .0) in
         let t : eqb (numberOf s call) 0 ≡ false = ne-eqb (numberOf s call) 0 (λ z. omega arith) in
-        let a : c .answer ≡ refusing (suc n) =
-        x .answers ∙ ap (λ (b : Bool). cond b (counting (length (Calls.endsOf s call))) (refusing (numberOf s call))) t ∙ ap refusing q in
+        let a : c .answer ≡ refusing (suc n) 0 =
+        x .answers ∙ ap (λ (b : Bool). cond b (counting (length (Calls.endsOf s call)) 0) (refusing (numberOf s call) 0)) t ∙ ap (λ (k : ℕ). refusing k 0) q in
         let v : c .value ≡ s = x .leaves ∙ ap (λ (b : Bool). cond b (after s call) s) t in
         rw (q, runFrom) (a, subst (λ (s : List ℕ). AllAgree cs (runFrom s (callsOf cs))) v (ih (c .value) (m .1)))
 
@@ -92,7 +93,7 @@ stays-finished limit (c ∷ cs) k f = go (refusal limit (k .finished) (length (k
   where
     go : (r : ℕ) → refusal limit (k .finished) (length (k .taken)) c ≡ r → keptAfter limit k cs .finished ≡ true → keptAfter limit k (c ∷ cs) .finished ≡ true
     go zero q ih =
-        let e : refusal limit (k .finished) (length (k .taken)) c ≡ 12 = ap (λ (b : Bool). refusalFor limit b (length (k .taken)) (length (pieceOf c)) (listOf c)) f in
+        let e : refusal limit (k .finished) (length (k .taken)) c ≡ alreadyFinished = ap (λ (b : Bool). refusalFor limit b (length (k .taken)) (length (pieceOf c)) (listOf c)) f in
         absurd (omega arith)
     go (suc n) q ih = rw (q, keptAfter) ih
 

@@ -11,12 +11,12 @@ use Rattle.model.specs.References.{formLimit, decode}
 use Rattle.model.specs.PlainScan as Plain
 use Rattle.model.specs.PlainScan.{Call, feed, finish, refused, reported, plainScan, nothingKept, keptAfter}
 use Rattle.model.specs.WindowSearch.{windowAt, ShiftIs, shift, WindowsAre, windows}
-use Rattle.decoder.specs.declared.Answer.{Answer}
-use Rattle.decoder.specs.Decoder.{refusing, counting}
-use Rattle.scan.specs.declared.Opened.{Opened}
-use Rattle.scan.specs.Opening.{OpenIs}
+use Rattle.answers.specs.declared.Answer.{Answer}
+use Rattle.answers.specs.Answers.{refusing, counting}
+use Rattle.answers.specs.declared.Opened.{Opened}
+use Rattle.scan_open.specs.Opening.{OpenIs}
 use Rattle.scan.specs.Calls.{FeedIs, FinishIs, Bytes}
-use Rattle.jazhuppe.specs.Searching.{answering, SearchIs}
+use Rattle.text_search.specs.Searching.{SearchIs}
 
 -- ---- calls as they were made
 
@@ -61,8 +61,8 @@ endsOf c = take (c .answer .count) (c .list)
 
 -- "A call's refusal number, its count of ends and as many entries of its lent list equal the plain scan's."
 abbrev pub Agrees : Made → Plain.Answer → Type 0
-Agrees c (refused n) = c .answer ≡ refusing n
-Agrees c (reported es) = (c .answer ≡ counting (length es)) × (endsOf c ≡ es)
+Agrees c (refused n) = c .answer ≡ refusing n 0
+Agrees c (reported es) = (c .answer ≡ counting (length es) 0) × (endsOf c ≡ es)
 
 abbrev pub AllAgree : List Made → List Plain.Answer → Type 0
 AllAgree [] [] = Unit {0}
@@ -100,7 +100,7 @@ pub record Agreement (flag : ℕ) (rule s : List ℕ) (ps : List Position) : Typ
   pub ends-rise : (text : List ℕ) → RisingFrom 0 (ends ps text)
   -- "starts, windows and their count are exactly the defined ones": a search of the finished plan, with a list that is long enough
   pub search : (cs : List Made) → (list : List ℕ) (r : Answer) (list′ : List ℕ) → SearchIs flag rule (planOf cs) list r list′ → length (planOf cs) ≤ length list
-      → (r ≡ answering 0 0 (length (starts ps (planOf cs))) (length (windows ps (planOf cs))))
+      → (r ≡ counting (length (starts ps (planOf cs))) (length (windows ps (planOf cs))))
       × (list′ ≡ overwrite list (starts ps (planOf cs)))
   pub a-start : (text : List ℕ) (k : ℕ) → List·Memᴰ k (starts ps text) ↔ StartsAt ps text k
   pub starts-rise : (text : List ℕ) → RisingFrom 0 (starts ps text)

@@ -6,14 +6,15 @@ use lib.ListN.{length}
 use Rattle.model.specs.Occurrence.{shortest}
 use Rattle.model.specs.RuleText.{foldFlag, positions}
 use Rattle.model.specs.NumberedAnswers.{Parsed, refused, accepted, parse}
-use Rattle.scan.specs.declared.Opened.{Opened}
+use Rattle.answers.specs.declared.Opened.{Opened}
+use Rattle.answers.specs.Answers.{refusingRule, acceptingRule}
 
 -- "Every refusal has zero counts beside its number and place"
 abbrev pub prepareAnswer : (flag : ℕ) → Parsed → Opened
-prepareAnswer flag (refused n p) = record { number = n; place = p; positions = 0; shortest = 0 }
+prepareAnswer flag (refused n p) = refusingRule n p
 prepareAnswer flag (accepted es) =
     let ps = positions (foldFlag flag) es in
-    record { number = 0; place = 0; positions = length ps; shortest = shortest ps }
+    acceptingRule (length ps) (shortest ps)
 
 abbrev pub PrepareIs : (flag : ℕ) (rule : List ℕ) → Opened → Type 0
 PrepareIs flag rule r = r ≡ prepareAnswer flag (parse (foldFlag flag) rule)

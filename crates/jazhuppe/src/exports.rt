@@ -1,13 +1,13 @@
 // The calls of the C interface, include/jazhuppe.h. A slice is a pointer and a length there.
 ghost use Rattle.decoder.specs.Decoder.{DecodeIs};
-ghost use Rattle.scan.specs.Opening.{OpenIs};
+ghost use Rattle.scan_open.specs.Opening.{OpenIs};
 ghost use Rattle.scan.specs.Calls.{FeedIs, FinishIs};
 ghost use Rattle.jazhuppe.specs.Preparing.{PrepareIs};
-ghost use Rattle.jazhuppe.specs.Searching.{SearchIs};
-ghost use Rattle.jazhuppe.specs.Showing.{ShownIs};
-use decoder::Answer;
-use scan::Opened;
-use window_search::Span;
+ghost use Rattle.text_search.specs.Searching.{SearchIs};
+ghost use Rattle.text_search.specs.Showing.{ShownIs};
+use answers::Answer;
+use answers::Opened;
+use answers::Span;
 
 // Prepares a rule: its refusal, or its counts.
 #[no_mangle]
@@ -28,7 +28,7 @@ pub extern "C" fn jazhuppe_prepare(rule: &[u8], fold: u32) -> Opened
 pub extern "C" fn jazhuppe_open(rule: &[u8], fold: u32, scan: &mut [u64]) -> Opened
     ensures { λ r. ⌜ OpenIs fold (now (rule .entry)) (now (scan .entry)) r (now (scan .exit)) ⌝ }
 {
-    scan::open(rule, fold, scan)
+    scan_open::open(rule, fold, scan)
 }
 
 // Feeds a piece to a scan.
@@ -60,7 +60,7 @@ pub extern "C" fn jazhuppe_decode(raw: &[u8], out: &mut [u8]) -> Answer
 pub extern "C" fn jazhuppe_search(rule: &[u8], fold: u32, text: &[u8], starts: &mut [u32]) -> Answer
     ensures { λ r. ⌜ SearchIs fold (now (rule .entry)) (now (text .entry)) (now (starts .entry)) r (now (starts .exit)) ⌝ }
 {
-    crate::search(rule, fold, text, starts)
+    text_search::search(rule, fold, text, starts)
 }
 
 // The part of a text that is shown, as its two places: no reference is returned through this interface.
@@ -68,5 +68,5 @@ pub extern "C" fn jazhuppe_search(rule: &[u8], fold: u32, text: &[u8], starts: &
 pub extern "C" fn jazhuppe_show(rule: &[u8], fold: u32, text: &[u8], start: usize) -> Span
     ensures { λ r. ⌜ ShownIs fold (now (rule .entry)) (now (text .entry)) start r ⌝ }
 {
-    crate::span(rule, fold, text, start)
+    text_search::span(rule, fold, text, start)
 }

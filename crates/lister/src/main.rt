@@ -2,7 +2,7 @@
 // `take` sorts the input into both, however long it is and in whatever pieces it comes; `list` prints what the
 // finder answers, through the calls that a C host has.
 ghost use Prim.Native.Nat.{_≤_};
-use decoder::Answer;
+use answers::Answer;
 
 // Bytes of the rule that are kept: one more than a rule may have, so that a longer one is refused.
 const RULE_ROOM: usize = limits::RULE_LIMIT + 1;

@@ -1,4 +1,3 @@
 -- Laws on plain values; each function's own file only cites them.
 pub mod Blocks
 pub mod LiteralLaws
-pub mod Overruns

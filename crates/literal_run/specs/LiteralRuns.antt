@@ -32,17 +32,3 @@ pub record LiteralRun (s : List ℕ) (r : ℕ) : Type 0 where
 pub record LiteralsCopied (raw out : List ℕ) (r : ℕ) (out′ : List ℕ) : Type 0 where
   pub run : LiteralRun raw r
   pub list : out′ ≡ sets out 0 (take r raw)
-
--- `copy_blocks_overrun`: the first r bytes, none of them `&`, stand at the buffer's front, and so do the 32 after them where the end is not near
-pub record BlocksOverrun (raw out : List ℕ) (r : ℕ) (out′ : List ℕ) : Type 0 where
-  pub fits : r ≤ length raw
-  pub plain : T (all notAmp (take r raw))
-  pub front : take r out′ ≡ take r raw
-  pub ahead : r + 64 ≤ length raw → take (r + 32) out′ ≡ take (r + 32) raw
-  pub long : length out′ ≡ length out
-
--- `copy_literals_overrun`: they stand at the buffer's front, and no more is said of it
-pub record LiteralsOverrun (raw out : List ℕ) (r : ℕ) (out′ : List ℕ) : Type 0 where
-  pub run : LiteralRun raw r
-  pub front : take r out′ ≡ take r raw
-  pub long : length out′ ≡ length out

@@ -5,8 +5,8 @@ ghost use mathlib.Core.List.{_++_};
 ghost use Prim.Native.Nat.{_+_, _≤_};
 ghost use lib.ListN.{length, take, drop};
 ghost use lib.Seq.{sets};
-ghost use Rattle.byte_search.specs.BlockTests.{BlockTested, NoneBefore, same};
-ghost use Rattle.literal_run.specs.LiteralRuns.{Copied, RestCopied, LiteralsCopied, BlocksOverrun, LiteralsOverrun};
+ghost use Rattle.byte_search.specs.BlockTests.{BlockTested, same};
+ghost use Rattle.literal_run.specs.LiteralRuns.{Copied, RestCopied, LiteralsCopied};
 
 // Whether one of the 32 bytes from i on is a `&`. No early exit, so that it compiles to vector
 // instructions.
@@ -164,53 +164,4 @@ pub fn copy_literals(raw: &[u8], out: &mut [u8]) -> usize
         return copy_bytes(raw, i, out);
     }
     copy_last_block(raw, i, out)
-}
-
-// ---- into a buffer that is read only as far as it is written
-
-// Copies blocks of 32 bytes to the front of `out`, each before it is tested, up to one that has a
-// `&` or stands near the end, and returns where that begins.
-fn copy_blocks_overrun(raw: &[u8], out: &mut [u8]) -> usize
-    requires { ⌜ length (now raw) ≤ length (now out) ⌝ }
-    ensures { λ r. ⌜ BlocksOverrun (now (raw .entry)) (now (out .entry)) r (now (out .exit)) ⌝ }
-{
-    let mut at = 0;
-    while 64 <= raw.len() - at {
-        copy_block(raw, at, out);
-        if block_has_amp(raw, at) {
-            return at;
-        }
-        at += 32;
-    }
-    at
-}
-
-// How far from i on, at most 32 bytes, no `&` stands.
-fn amp_in_block(raw: &[u8], i: usize) -> usize
-    requires { ⌜ i + 64 ≤ length (now raw) ⌝ }
-    ensures { λ r. ⌜ NoneBefore (same (now (raw .entry)) 38) i (i + 32) r ⌝ }
-{
-    let j = byte_search::first_in_block(raw, b'&', i);
-    let n = j - i;
-    if 32 < n {
-        return i;
-    }
-    j
-}
-
-// Copies the bytes before the first `&`, or all of them, to the front of `out`, and returns how many.
-// What stands after them in `out` may change too.
-pub fn copy_literals_overrun(raw: &[u8], out: &mut [u8]) -> usize
-    requires { ⌜ length (now raw) ≤ length (now out) ⌝ }
-    ensures { λ r. ⌜ LiteralsOverrun (now (raw .entry)) (now (out .entry)) r (now (out .exit)) ⌝ }
-{
-    let i = copy_blocks_overrun(raw, out);
-    if raw.len() - i < 64 {
-        return copy_bytes(raw, i, out);
-    }
-    let j = amp_in_block(raw, i);
-    if raw[j] == b'&' {
-        return j;
-    }
-    copy_bytes(raw, j, out)
 }

@@ -1,21 +1,21 @@
 -- What a piece lets out and what of it is held, byte by byte and reference by reference, for every length limit of a form: what a feed meets at its next
--- byte with nothing held, and what held bytes become when a piece follows. (The two laws over any cut are `held-cut` and `text-cut` of `Decoding`.)
--- Assumes nothing.
+-- byte with nothing held, and what held bytes become when a piece follows. What is let out is said of tokens (`out-..`), and each law of the text
+-- (`letOut-..`) is one reading of such a law. (The two laws over any cut are `held-cut` and `tokens-cut` of `Decoding`.) Assumes nothing.
 use mathlib.Core.Path.{_≡_, refl, sym, ap, subst, _∙_}
 use mathlib.Core.Bool.{Bool, true, false}
 use mathlib.Core.List.{List, [], _∷_, _++_, append-nil}
-use Prim.Native.Nat.{ℕ, zero, suc, pred, _+_, _-_, _≤_}
+use Prim.Native.Nat.{ℕ, zero, suc, pred, _-_, _≤_}
 use native.Mathlib.Omega.{arith}
 use native.Mathlib.Decide.{decLe}
 use lib.Dec.{T}
 use lib.ListN.{length, take, drop, length-append, take-append-drop, length-take}
 use lib.Seq.{take-at, take-all, drop-append-seam}
 use Rattle.model.specs.Occurrence.{all}
-use Rattle.model.specs.References.{Found, none, found, referenceAt, utf8, decode, notAmp, canGrow, heldTail, withoutTail, letOut}
+use Rattle.model.specs.References.{Found, none, found, referenceAt, utf8, Token, byteToken, byteTokens, tokensFrom, joined, notAmp, canGrow, heldTail, withoutTail, outTokens, letOut}
 use Rattle.model.proofs.Truth.{T-to, T-false, and-left, and-right}
 use Rattle.model.proofs.Forms.{FormPrefix, not-none, form-shape}
 use Rattle.model.proofs.Borders.{Reference, ref-into, ref-out, ref-size, ref-local, ref-more, ref-plain, ref-growing, grow-head, grow-tail, shape-later}
-use Rattle.model.proofs.Decoding.{decodeFrom, decode-none, decode-found, tail-true, tail-false, tail-joined, held-cut, text-cut, growing-length}
+use Rattle.model.proofs.Decoding.{tokens-none, tokens-found, tail-true, tail-false, tail-joined, held-cut, tokens-cut, growing-length}
 
 module _ (limit : ℕ) where
   -- ---- a tail, and what stands before it
@@ -29,15 +29,18 @@ module _ (limit : ℕ) where
       go false q ih = omega (arith, ap length (tail-false limit c cs q))
 
   -- Nothing stands before a list that is all held, and it lets nothing out.
-  pub all-held : (xs : List ℕ) → heldTail limit xs ≡ xs → letOut limit xs ≡ []
-  all-held xs e =
+  pub out-held : (xs : List ℕ) → heldTail limit xs ≡ xs → outTokens limit xs ≡ []
+  out-held xs e =
       let n : length xs - length (heldTail limit xs) ≡ 0 = omega (arith, ap length e) in
-      ap (λ (i : ℕ). decode limit (take i xs)) n
+      ap (λ (i : ℕ). tokensFrom limit 0 (take i xs)) n
 
-  none-held : (xs : List ℕ) → heldTail limit xs ≡ [] → letOut limit xs ≡ decode limit xs
+  pub all-held : (xs : List ℕ) → heldTail limit xs ≡ xs → letOut limit xs ≡ []
+  all-held xs e = ap joined (out-held xs e)
+
+  none-held : (xs : List ℕ) → heldTail limit xs ≡ [] → outTokens limit xs ≡ tokensFrom limit 0 xs
   none-held xs e =
       let n : length xs ≡ length xs - length (heldTail limit xs) = omega (arith, ap length e) in
-      ap (decode limit) (ap (λ (l : List ℕ). take (length xs - length (heldTail limit xs)) l) (sym (append-nil xs)) ∙ take-at xs [] (length xs - length (heldTail limit xs)) n)
+      ap (tokensFrom limit 0) (ap (λ (l : List ℕ). take (length xs - length (heldTail limit xs)) l) (sym (append-nil xs)) ∙ take-at xs [] (length xs - length (heldTail limit xs)) n)
 
   -- ---- what a feed meets at its next byte, with nothing held
 
@@ -45,8 +48,8 @@ module _ (limit : ℕ) where
   pub held-open : (c : ℕ) (cs : List ℕ) → canGrow limit (c ∷ cs) ≡ true → heldTail limit (c ∷ cs) ≡ c ∷ cs
   held-open c cs q = tail-true limit c cs q
 
-  pub letOut-open : (c : ℕ) (cs : List ℕ) → canGrow limit (c ∷ cs) ≡ true → letOut limit (c ∷ cs) ≡ []
-  letOut-open c cs q = all-held (c ∷ cs) (tail-true limit c cs q)
+  pub out-open : (c : ℕ) (cs : List ℕ) → canGrow limit (c ∷ cs) ≡ true → outTokens limit (c ∷ cs) ≡ []
+  out-open c cs q = out-held (c ∷ cs) (tail-true limit c cs q)
 
   without-next : (c : ℕ) (cs : List ℕ) → canGrow limit (c ∷ cs) ≡ false → withoutTail limit (c ∷ cs) ≡ c ∷ withoutTail limit cs
   without-next c cs q =
@@ -58,11 +61,11 @@ module _ (limit : ℕ) where
   pub held-none : (c : ℕ) (cs : List ℕ) → canGrow limit (c ∷ cs) ≡ false → heldTail limit (c ∷ cs) ≡ heldTail limit cs
   held-none c cs q = tail-false limit c cs q
 
-  pub letOut-none : (c : ℕ) (cs : List ℕ) → canGrow limit (c ∷ cs) ≡ false → referenceAt limit (c ∷ cs) ≡ none → letOut limit (c ∷ cs) ≡ c ∷ letOut limit cs
-  letOut-none c cs q r =
+  pub out-none : (c : ℕ) (cs : List ℕ) → canGrow limit (c ∷ cs) ≡ false → referenceAt limit (c ∷ cs) ≡ none → outTokens limit (c ∷ cs) ≡ byteToken c ∷ outTokens limit cs
+  out-none c cs q r =
       let w = withoutTail limit cs in
       let j : (c ∷ w) ++ heldTail limit cs ≡ c ∷ cs = ap (λ (l : List ℕ). c ∷ l) (tail-joined limit cs) in
-      ap (decode limit) (without-next c cs q) ∙ decode-none limit c w (go (referenceAt limit (c ∷ w)) refl j)
+      ap (tokensFrom limit 0) (without-next c cs q) ∙ tokens-none limit c w (go (referenceAt limit (c ∷ w)) refl j)
     where
       go : (f : Found) → referenceAt limit (c ∷ withoutTail limit cs) ≡ f → (c ∷ withoutTail limit cs) ++ heldTail limit cs ≡ c ∷ cs → referenceAt limit (c ∷ withoutTail limit cs) ≡ none
       go none e j = e
@@ -76,27 +79,27 @@ module _ (limit : ℕ) where
   pub held-plain : (c : ℕ) (cs : List ℕ) → T (notAmp c) → heldTail limit (c ∷ cs) ≡ heldTail limit cs
   held-plain c cs t = held-none c cs (grow-plain c cs t)
 
-  pub letOut-plain : (c : ℕ) (cs : List ℕ) → T (notAmp c) → letOut limit (c ∷ cs) ≡ c ∷ letOut limit cs
-  letOut-plain c cs t = letOut-none c cs (grow-plain c cs t) (ref-plain limit c cs t)
+  pub out-plain : (c : ℕ) (cs : List ℕ) → T (notAmp c) → outTokens limit (c ∷ cs) ≡ byteToken c ∷ outTokens limit cs
+  out-plain c cs t = out-none c cs (grow-plain c cs t) (ref-plain limit c cs t)
 
   -- A run of such bytes.
   pub held-run : (xs ys : List ℕ) → T (all notAmp xs) → heldTail limit (xs ++ ys) ≡ heldTail limit ys
   held-run [] ys t = refl
   held-run (c ∷ xs) ys t = held-plain c (xs ++ ys) (and-left (notAmp c) (all notAmp xs) t) ∙ held-run xs ys (and-right (notAmp c) (all notAmp xs) t)
 
-  pub letOut-run : (xs ys : List ℕ) → T (all notAmp xs) → letOut limit (xs ++ ys) ≡ xs ++ letOut limit ys
-  letOut-run [] ys t = refl
-  letOut-run (c ∷ xs) ys t =
-      letOut-plain c (xs ++ ys) (and-left (notAmp c) (all notAmp xs) t) ∙ ap (λ (l : List ℕ). c ∷ l) (letOut-run xs ys (and-right (notAmp c) (all notAmp xs) t))
+  pub out-run : (xs ys : List ℕ) → T (all notAmp xs) → outTokens limit (xs ++ ys) ≡ byteTokens xs ++ outTokens limit ys
+  out-run [] ys t = refl
+  out-run (c ∷ xs) ys t =
+      out-plain c (xs ++ ys) (and-left (notAmp c) (all notAmp xs) t) ∙ ap (λ (l : List Token). byteToken c ∷ l) (out-run xs ys (and-right (notAmp c) (all notAmp xs) t))
 
-  -- A legal reference: its bytes, and reading goes on after it.
-  spent : (s : List ℕ) (k : ℕ) → k ≡ length s → decodeFrom limit k s ≡ []
+  -- A legal reference: its token, and reading goes on after it.
+  spent : (s : List ℕ) (k : ℕ) → k ≡ length s → tokensFrom limit k s ≡ []
   spent [] k e = refl
   spent (c ∷ s) zero e = absurd (omega arith)
   spent (c ∷ s) (suc k) e = spent s k (omega arith)
 
   -- A whole reference holds nothing back.
-  whole : (f : List ℕ) (n k : ℕ) → Reference limit f n k → k ≡ length f → (heldTail limit f ≡ []) × (letOut limit f ≡ utf8 n)
+  whole : (f : List ℕ) (n k : ℕ) → Reference limit f n k → k ≡ length f → (heldTail limit f ≡ []) × (outTokens limit f ≡ record { takes = k; gives = utf8 n } ∷ [])
   whole [] n k x e = absurd (omega (arith, ref-size limit [] n k (ref-out limit [] n k x) .0))
   whole (c ∷ s) n k x e =
       let r = ref-out limit (c ∷ s) n k x in
@@ -105,7 +108,7 @@ module _ (limit : ℕ) where
       let j : p .spelling ≡ c ∷ s = alone p (p .rest) (p .joined) (omega (arith, p .size)) in
       let a : T (all notAmp s) = shape-later c s (form-shape (p .form)) j in
       let h : heldTail limit (c ∷ s) ≡ [] = held-none c s g ∙ ap (heldTail limit) (sym (append-nil s)) ∙ held-run s [] a in
-      (h, none-held (c ∷ s) h ∙ decode-found limit c s n k r ∙ ap (λ (l : List ℕ). utf8 n ++ l) (spent s (pred k) (omega arith)) ∙ append-nil (utf8 n))
+      (h, none-held (c ∷ s) h ∙ tokens-found limit c s n k r ∙ ap (λ (l : List Token). record { takes = k; gives = utf8 n } ∷ l) (spent s (pred k) (omega arith)))
     where
       alone : {m : ℕ} (p : FormPrefix (c ∷ s) m k) (rest : List ℕ) → c ∷ s ≡ p .spelling ++ rest → length (p .spelling) ≡ length (c ∷ s) → p .spelling ≡ c ∷ s
       alone p [] j z = sym (j ∙ append-nil (p .spelling))
@@ -116,7 +119,7 @@ module _ (limit : ℕ) where
     front : List ℕ
     joined : cs ≡ front ++ drop k cs
     holds : heldTail limit front ≡ []
-    gives : letOut limit front ≡ utf8 n
+    gives : outTokens limit front ≡ record { takes = k; gives = utf8 n } ∷ []
 
   reference : (cs : List ℕ) (n k : ℕ) → referenceAt limit cs ≡ found n k → Whole cs n k
   reference cs n k r =
@@ -139,35 +142,13 @@ module _ (limit : ℕ) where
       let x = reference cs n k r in
       ap (heldTail limit) (x .joined) ∙ held-cut limit (x .front) (drop k cs) ∙ ap (λ (l : List ℕ). heldTail limit (l ++ drop k cs)) (x .holds)
 
-  pub letOut-reference : (cs : List ℕ) (n k : ℕ) → referenceAt limit cs ≡ found n k → letOut limit cs ≡ utf8 n ++ letOut limit (drop k cs)
-  letOut-reference cs n k r =
+  pub out-reference : (cs : List ℕ) (n k : ℕ) → referenceAt limit cs ≡ found n k → outTokens limit cs ≡ record { takes = k; gives = utf8 n } ∷ outTokens limit (drop k cs)
+  out-reference cs n k r =
       let x = reference cs n k r in
-      ap (letOut limit) (x .joined)
-      ∙ text-cut limit (x .front) (drop k cs)
-      ∙ ap (λ (l : List ℕ). letOut limit (x .front) ++ letOut limit (l ++ drop k cs)) (x .holds)
-      ∙ ap (λ (l : List ℕ). l ++ letOut limit (drop k cs)) (x .gives)
-
-  -- ---- the same for the decoder of the whole
-
-  skip-drop : (k : ℕ) (cs : List ℕ) → decodeFrom limit k cs ≡ decode limit (drop k cs)
-  skip-drop zero cs = refl
-  skip-drop (suc k) [] = refl
-  skip-drop (suc k) (c ∷ cs) = skip-drop k cs
-
-  pub decode-reference : (c : ℕ) (cs : List ℕ) (n k : ℕ) → referenceAt limit (c ∷ cs) ≡ found n k → decode limit (c ∷ cs) ≡ utf8 n ++ decode limit (drop k (c ∷ cs))
-  decode-reference c cs n k r =
-      let z = ref-size limit (c ∷ cs) n k r .0 in
-      decode-found limit c cs n k r ∙ ap (λ (l : List ℕ). utf8 n ++ l) (skip-drop (pred k) cs ∙ after k z)
-    where
-      after : (k : ℕ) → 1 ≤ k → decode limit (drop (pred k) cs) ≡ decode limit (drop k (c ∷ cs))
-      after zero z = absurd (omega arith)
-      after (suc k) z = refl
-
-  pub decode-run : (xs ys : List ℕ) → T (all notAmp xs) → decode limit (xs ++ ys) ≡ xs ++ decode limit ys
-  decode-run [] ys t = refl
-  decode-run (c ∷ xs) ys t =
-      decode-none limit c (xs ++ ys) (ref-plain limit c (xs ++ ys) (and-left (notAmp c) (all notAmp xs) t))
-      ∙ ap (λ (l : List ℕ). c ∷ l) (decode-run xs ys (and-right (notAmp c) (all notAmp xs) t))
+      ap (outTokens limit) (x .joined)
+      ∙ tokens-cut limit (x .front) (drop k cs)
+      ∙ ap (λ (l : List ℕ). outTokens limit (x .front) ++ outTokens limit (l ++ drop k cs)) (x .holds)
+      ∙ ap (λ (l : List Token). l ++ outTokens limit (drop k cs)) (x .gives)
 
   -- ---- the first `limit` bytes decide: what a reader of a small buffer needs
 
@@ -213,14 +194,14 @@ module _ (limit : ℕ) where
 
   -- ---- held bytes and a piece, where the held bytes are such a tail
 
-  -- They become a reference with the piece's first bytes: `letOut-reference`. They can still grow with all of it: `letOut-open`. Else they are let
-  -- out as they came, and reading goes on with the piece.
+  -- They become a reference with the piece's first bytes: `out-reference`. They can still grow with all of it: `out-open`. Else they are let out as
+  -- they came, and reading goes on with the piece.
   pub held-passed : (h ys : List ℕ) → heldTail limit h ≡ h → canGrow limit (h ++ ys) ≡ false → heldTail limit (h ++ ys) ≡ heldTail limit ys
   held-passed [] ys e g = refl
   held-passed (c ∷ s) ys e g =
       held-none c (s ++ ys) g ∙ held-run s ys (held-plain-later c s e)
 
-  pub letOut-passed : (h ys : List ℕ) → heldTail limit h ≡ h → canGrow limit (h ++ ys) ≡ false → referenceAt limit (h ++ ys) ≡ none → letOut limit (h ++ ys) ≡ h ++ letOut limit ys
-  letOut-passed [] ys e g r = refl
-  letOut-passed (c ∷ s) ys e g r =
-      letOut-none c (s ++ ys) g r ∙ ap (λ (l : List ℕ). c ∷ l) (letOut-run s ys (held-plain-later c s e))
+  pub out-passed : (h ys : List ℕ) → heldTail limit h ≡ h → canGrow limit (h ++ ys) ≡ false → referenceAt limit (h ++ ys) ≡ none → outTokens limit (h ++ ys) ≡ byteTokens h ++ outTokens limit ys
+  out-passed [] ys e g r = refl
+  out-passed (c ∷ s) ys e g r =
+      out-none c (s ++ ys) g r ∙ ap (λ (l : List Token). byteToken c ∷ l) (out-run s ys (held-plain-later c s e))

@@ -1,5 +1,6 @@
 -- Decoding in pieces, for every length limit of a form: the held tail is the longest that can still grow, and the two laws over a cut (`held-cut`,
--- `text-cut`) and the one of the finish (`finish-text`) carry a plan through any pieces. Decoding never lengthens. Assumes nothing.
+-- `tokens-cut`) and the one of the finish (`tokens-finish`) carry a plan through any pieces. They speak of tokens: the text that these give
+-- (`text-cut`, `finish-text`) and the raw bytes that they take (`taken-all`, `taken-out`) are two readings. Decoding never lengthens. Assumes nothing.
 use mathlib.Core.Path.{_≡_, refl, sym, ap, subst, _∙_}
 use mathlib.Core.Bool.{Bool, true, false, cond}
 use mathlib.Core.Logic.{_⊎_, inl, inr}
@@ -11,22 +12,55 @@ use lib.Dec.{T, ltb}
 use lib.ListN.{length, length-append}
 use lib.Seq.{take-at}
 use Rattle.model.specs.Occurrence.{all}
-use Rattle.model.specs.References.{Form, amp, lt, gt, apos, quot, decimal, hexadecimal, Found, none, found, referenceAt, utf8, tokenBy, tokensFrom, joined, decode, notAmp, CanGrow, canGrow, heldTail, withoutTail, letOut, heldMost}
+use Rattle.model.specs.References.{Form, amp, lt, gt, apos, quot, decimal, hexadecimal, Found, none, found, referenceAt, utf8, Token, byteToken, byteTokens, tokenBy, tokensFrom, taken, joined, decode, notAmp, CanGrow, canGrow, heldTail, withoutTail, outTokens, letOut, heldMost}
 use Rattle.model.proofs.Truth.{and-left, and-right, T-to, T-true, T-false}
 use Rattle.model.proofs.Forms.{not-none, grow-into, grow-out}
 use Rattle.model.proofs.Borders.{ref-into, ref-size, ref-local, ref-more, ref-across, ref-plain, ref-growing, grow-less, grow-head, grow-tail}
 
+-- ---- tokens read as text, and as a count of raw bytes
+
+pub joined-append : (xs ys : List Token) → joined (xs ++ ys) ≡ joined xs ++ joined ys
+joined-append [] ys = refl
+joined-append (t ∷ xs) ys = ap (λ (l : List ℕ). t .gives ++ l) (joined-append xs ys) ∙ sym (append-assoc (t .gives) (joined xs) (joined ys))
+
+pub joined-bytes : (cs : List ℕ) → joined (byteTokens cs) ≡ cs
+joined-bytes [] = refl
+joined-bytes (c ∷ cs) = ap (λ (l : List ℕ). c ∷ l) (joined-bytes cs)
+
+-- bytes that are kept, before other tokens
+pub joined-run : (cs : List ℕ) (ts : List Token) → joined (byteTokens cs ++ ts) ≡ cs ++ joined ts
+joined-run cs ts = joined-append (byteTokens cs) ts ∙ ap (λ (l : List ℕ). l ++ joined ts) (joined-bytes cs)
+
+pub taken-append : (xs ys : List Token) → taken (xs ++ ys) ≡ taken xs + taken ys
+taken-append [] ys = omega arith
+taken-append (t ∷ xs) ys = let r = taken-append xs ys in omega arith
+
+pub taken-bytes : (cs : List ℕ) → taken (byteTokens cs) ≡ length cs
+taken-bytes [] = refl
+taken-bytes (c ∷ cs) = let r = taken-bytes cs in omega arith
+
+pub byteTokens-append : (xs ys : List ℕ) → byteTokens (xs ++ ys) ≡ byteTokens xs ++ byteTokens ys
+byteTokens-append [] ys = refl
+byteTokens-append (c ∷ xs) ys = ap (λ (l : List Token). byteToken c ∷ l) (byteTokens-append xs ys)
+
 module _ (limit : ℕ) where
   -- ---- one step
+
+  pub tokens-none : (c : ℕ) (cs : List ℕ) → referenceAt limit (c ∷ cs) ≡ none → tokensFrom limit 0 (c ∷ cs) ≡ byteToken c ∷ tokensFrom limit 0 cs
+  tokens-none c cs q = ap (λ (r : Found). tokenBy c r ∷ tokensFrom limit (pred (tokenBy c r .takes)) cs) q
+
+  pub tokens-found : (c : ℕ) (cs : List ℕ) (n k : ℕ) → referenceAt limit (c ∷ cs) ≡ found n k
+      → tokensFrom limit 0 (c ∷ cs) ≡ record { takes = k; gives = utf8 n } ∷ tokensFrom limit (pred k) cs
+  tokens-found c cs n k q = ap (λ (r : Found). tokenBy c r ∷ tokensFrom limit (pred (tokenBy c r .takes)) cs) q
 
   abbrev pub decodeFrom : (skip : ℕ) → List ℕ → List ℕ
   decodeFrom skip cs = joined (tokensFrom limit skip cs)
 
   pub decode-none : (c : ℕ) (cs : List ℕ) → referenceAt limit (c ∷ cs) ≡ none → decode limit (c ∷ cs) ≡ c ∷ decode limit cs
-  decode-none c cs q = ap (λ (r : Found). tokenBy c r .gives ++ decodeFrom (pred (tokenBy c r .takes)) cs) q
+  decode-none c cs q = ap joined (tokens-none c cs q)
 
   pub decode-found : (c : ℕ) (cs : List ℕ) (n k : ℕ) → referenceAt limit (c ∷ cs) ≡ found n k → decode limit (c ∷ cs) ≡ utf8 n ++ decodeFrom (pred k) cs
-  decode-found c cs n k q = ap (λ (r : Found). tokenBy c r .gives ++ decodeFrom (pred (tokenBy c r .takes)) cs) q
+  decode-found c cs n k q = ap joined (tokens-found c cs n k q)
 
   -- ---- a cut across which no reference lies
 
@@ -34,26 +68,27 @@ module _ (limit : ℕ) where
   NoneAcross [] b = Unit {0}
   NoneAcross (c ∷ a) b = ((n k : ℕ) → referenceAt limit ((c ∷ a) ++ b) ≡ found n k → k ≤ length (c ∷ a)) × NoneAcross a b
 
-  decode-cut : (a b : List ℕ) (skip : ℕ) → skip ≤ length a → NoneAcross a b → decodeFrom skip (a ++ b) ≡ decodeFrom skip a ++ decodeFrom 0 b
-  decode-cut [] b zero l h = refl
-  decode-cut [] b (suc k) l h = absurd (omega arith)
-  decode-cut (c ∷ a) b (suc k) l h = decode-cut a b k (omega arith) (h .1)
-  decode-cut (c ∷ a) b zero l h = go (referenceAt limit ((c ∷ a) ++ b)) refl (referenceAt limit (c ∷ a)) refl (λ k l. decode-cut a b k l (h .1))
+  tokens-across : (a b : List ℕ) (skip : ℕ) → skip ≤ length a → NoneAcross a b → tokensFrom limit skip (a ++ b) ≡ tokensFrom limit skip a ++ tokensFrom limit 0 b
+  tokens-across [] b zero l h = refl
+  tokens-across [] b (suc k) l h = absurd (omega arith)
+  tokens-across (c ∷ a) b (suc k) l h = tokens-across a b k (omega arith) (h .1)
+  tokens-across (c ∷ a) b zero l h = go (referenceAt limit ((c ∷ a) ++ b)) refl (referenceAt limit (c ∷ a)) refl (λ k l. tokens-across a b k l (h .1))
     where
       go : (r : Found) → referenceAt limit ((c ∷ a) ++ b) ≡ r → (r′ : Found) → referenceAt limit (c ∷ a) ≡ r′
-          → ((k : ℕ) → k ≤ length a → decodeFrom k (a ++ b) ≡ decodeFrom k a ++ decodeFrom 0 b)
-          → decodeFrom 0 ((c ∷ a) ++ b) ≡ decodeFrom 0 (c ∷ a) ++ decodeFrom 0 b
+          → ((k : ℕ) → k ≤ length a → tokensFrom limit k (a ++ b) ≡ tokensFrom limit k a ++ tokensFrom limit 0 b)
+          → tokensFrom limit 0 ((c ∷ a) ++ b) ≡ tokensFrom limit 0 (c ∷ a) ++ tokensFrom limit 0 b
       go none q none q′ ih =
-          decode-none c (a ++ b) q ∙ ap (λ (l : List ℕ). c ∷ l) (ih 0 (omega arith)) ∙ ap (λ (l : List ℕ). l ++ decodeFrom 0 b) (sym (decode-none c a q′))
+          tokens-none c (a ++ b) q
+          ∙ ap (λ (l : List Token). byteToken c ∷ l) (ih 0 (omega arith))
+          ∙ ap (λ (l : List Token). l ++ tokensFrom limit 0 b) (sym (tokens-none c a q′))
       go none q (found n k) q′ ih = not-none (sym q ∙ ref-more limit (c ∷ a) b n k q′)
       go (found n k) q r′ q′ ih =
           let l = h .0 n k q in
           let s = ref-size limit ((c ∷ a) ++ b) n k q .0 in
           let q″ = ref-local limit (c ∷ a) b n k q l in
-          decode-found c (a ++ b) n k q
-          ∙ ap (λ (l : List ℕ). utf8 n ++ l) (ih (pred k) (omega arith))
-          ∙ sym (append-assoc (utf8 n) (decodeFrom (pred k) a) (decodeFrom 0 b))
-          ∙ ap (λ (l : List ℕ). l ++ decodeFrom 0 b) (sym (decode-found c a n k q″))
+          tokens-found c (a ++ b) n k q
+          ∙ ap (λ (l : List Token). record { takes = k; gives = utf8 n } ∷ l) (ih (pred k) (omega arith))
+          ∙ ap (λ (l : List Token). l ++ tokensFrom limit 0 b) (sym (tokens-found c a n k q″))
 
   -- and none across the cut before a shorter second part
   none-less : (a b c : List ℕ) → NoneAcross a (b ++ c) → NoneAcross a b
@@ -61,16 +96,18 @@ module _ (limit : ℕ) where
   none-less (d ∷ a) b c h =
       ((λ n k e. h .0 n k (ap (referenceAt limit) (sym (append-assoc (d ∷ a) b c)) ∙ ref-more limit ((d ∷ a) ++ b) c n k e)), none-less a b c (h .1))
 
-  -- ---- what decodes to itself
+  -- ---- what is kept byte by byte, and so decodes to itself
 
-  decode-plain : (s : List ℕ) → T (all notAmp s) → decodeFrom 0 s ≡ s
-  decode-plain [] h = refl
-  decode-plain (c ∷ s) h =
-      decode-none c s (ref-plain limit c s (and-left (notAmp c) (all notAmp s) h)) ∙ ap (λ (l : List ℕ). c ∷ l) (decode-plain s (and-right (notAmp c) (all notAmp s) h))
+  tokens-plain : (s : List ℕ) → T (all notAmp s) → tokensFrom limit 0 s ≡ byteTokens s
+  tokens-plain [] h = refl
+  tokens-plain (c ∷ s) h =
+      tokens-none c s (ref-plain limit c s (and-left (notAmp c) (all notAmp s) h))
+      ∙ ap (λ (l : List Token). byteToken c ∷ l) (tokens-plain s (and-right (notAmp c) (all notAmp s) h))
 
-  pub decode-growing : (h : List ℕ) → T (canGrow limit h) → decode limit h ≡ h
-  decode-growing [] t = refl
-  decode-growing (c ∷ s) t = decode-none c s (ref-growing limit (c ∷ s) t) ∙ ap (λ (l : List ℕ). c ∷ l) (decode-plain s (grow-tail limit c s t))
+  pub tokens-growing : (h : List ℕ) → T (canGrow limit h) → tokensFrom limit 0 h ≡ byteTokens h
+  tokens-growing [] t = refl
+  tokens-growing (c ∷ s) t =
+      tokens-none c s (ref-growing limit (c ∷ s) t) ∙ ap (λ (l : List Token). byteToken c ∷ l) (tokens-plain s (grow-tail limit c s t))
 
   -- ---- the held tail
 
@@ -176,19 +213,47 @@ module _ (limit : ℕ) where
 
   -- ---- the laws
 
-  -- "The finish lets it through as it came."
-  pub finish-text : (P : List ℕ) → decode limit P ≡ letOut limit P ++ heldTail limit P
-  finish-text P =
+  -- The tokens take all the bytes but those skipped ..
+  pub taken-all : (cs : List ℕ) (skip : ℕ) → skip ≤ length cs → taken (tokensFrom limit skip cs) + skip ≡ length cs
+  taken-all [] skip l = omega arith
+  taken-all (c ∷ cs) (suc k) l = let r = taken-all cs k (omega arith) in omega arith
+  taken-all (c ∷ cs) zero l = go (referenceAt limit (c ∷ cs)) refl (taken-all cs)
+    where
+      go : (r : Found) → referenceAt limit (c ∷ cs) ≡ r → ((skip : ℕ) → skip ≤ length cs → taken (tokensFrom limit skip cs) + skip ≡ length cs)
+          → taken (tokensFrom limit 0 (c ∷ cs)) + 0 ≡ suc (length cs)
+      go none q ih = let i = ih 0 (omega arith) in omega (arith, ap taken (tokens-none c cs q))
+      go (found n k) q ih =
+          let s = ref-size limit (c ∷ cs) n k q in
+          let s₁ = s .1 in
+          let s₀ = s .0 in
+          let i = ih (pred k) (omega arith) in
+          omega (arith, ap taken (tokens-found c cs n k q))
+
+  -- .. and those let out all but the held.
+  pub taken-out : (P : List ℕ) → taken (outTokens limit P) + length (heldTail limit P) ≡ length P
+  taken-out P =
+      let t = taken-all (withoutTail limit P) 0 (omega arith) in
+      omega (arith, ap length (tail-joined P), length-append (withoutTail limit P) (heldTail limit P))
+
+  -- "The finish lets it through as it came": byte by byte.
+  pub tokens-finish : (P : List ℕ) → tokensFrom limit 0 P ≡ outTokens limit P ++ byteTokens (heldTail limit P)
+  tokens-finish P =
       let s = split P in
       let h = heldTail limit P in
-      ap (decode limit) (s .joined)
-      ∙ decode-cut (s .front) h 0 (omega arith) (none-less (s .front) h [] (none-across (s .front) h [] (s .longest) (s .holds)))
-      ∙ ap (λ (l : List ℕ). decode limit (s .front) ++ l) (held-decodes h (s .holds))
-      ∙ ap (λ (l : List ℕ). decode limit l ++ h) (sym (front-is P s))
+      ap (tokensFrom limit 0) (s .joined)
+      ∙ tokens-across (s .front) h 0 (omega arith) (none-less (s .front) h [] (none-across (s .front) h [] (s .longest) (s .holds)))
+      ∙ ap (λ (l : List Token). tokensFrom limit 0 (s .front) ++ l) (held-tokens h (s .holds))
+      ∙ ap (λ (l : List ℕ). tokensFrom limit 0 l ++ byteTokens h) (sym (front-is P s))
     where
-      held-decodes : (h : List ℕ) → Held h → decode limit h ≡ h
-      held-decodes h (inl e) = rw e
-      held-decodes h (inr g) = decode-growing h g
+      held-tokens : (h : List ℕ) → Held h → tokensFrom limit 0 h ≡ byteTokens h
+      held-tokens h (inl e) = rw e
+      held-tokens h (inr g) = tokens-growing h g
+
+  pub finish-text : (P : List ℕ) → decode limit P ≡ letOut limit P ++ heldTail limit P
+  finish-text P =
+      ap joined (tokens-finish P)
+      ∙ joined-append (outTokens limit P) (byteTokens (heldTail limit P))
+      ∙ ap (λ (l : List ℕ). letOut limit P ++ l) (joined-bytes (heldTail limit P))
 
   -- A plan that is cut in two: what is held after both parts, and what is let out.
   pub held-cut : (xs ys : List ℕ) → heldTail limit (xs ++ ys) ≡ heldTail limit (heldTail limit xs ++ ys)
@@ -199,8 +264,8 @@ module _ (limit : ℕ) where
       ∙ ap (heldTail limit) (append-assoc (s .front) h ys)
       ∙ tail-past (s .front) (h ++ ys) (longer-more (s .front) h ys (s .longest))
 
-  pub text-cut : (xs ys : List ℕ) → letOut limit (xs ++ ys) ≡ letOut limit xs ++ letOut limit (heldTail limit xs ++ ys)
-  text-cut xs ys =
+  pub tokens-cut : (xs ys : List ℕ) → outTokens limit (xs ++ ys) ≡ outTokens limit xs ++ outTokens limit (heldTail limit xs ++ ys)
+  tokens-cut xs ys =
       let s = split xs in
       let h = heldTail limit xs in
       let a = s .front in
@@ -211,11 +276,14 @@ module _ (limit : ℕ) where
       let j : xs ++ ys ≡ (a ++ b) ++ t = ap (λ (l : List ℕ). l ++ ys) (s .joined) ∙ append-assoc a h ys ∙ ap (λ (l : List ℕ). a ++ l) (r .joined) ∙ sym (append-assoc a b t) in
       let n : NoneAcross a (b ++ t) = subst (λ (l : List ℕ). NoneAcross a l) (r .joined) (none-across a h ys (s .longest) (s .holds)) in
       let w : withoutTail limit ((a ++ b) ++ t) ≡ a ++ b = without-is (a ++ b) t (ap (heldTail limit) (sym j) ∙ held-cut xs ys) in
-      ap (letOut limit) j
-      ∙ ap (decode limit) w
-      ∙ decode-cut a b 0 (omega arith) (none-less a b t n)
-      ∙ ap (λ (l : List ℕ). decode limit l ++ decode limit b) (sym (front-is xs s))
-      ∙ ap (λ (l : List ℕ). letOut limit xs ++ decode limit l) (sym (front-is Z r))
+      ap (outTokens limit) j
+      ∙ ap (tokensFrom limit 0) w
+      ∙ tokens-across a b 0 (omega arith) (none-less a b t n)
+      ∙ ap (λ (l : List ℕ). tokensFrom limit 0 l ++ tokensFrom limit 0 b) (sym (front-is xs s))
+      ∙ ap (λ (l : List ℕ). outTokens limit xs ++ tokensFrom limit 0 l) (sym (front-is Z r))
+
+  pub text-cut : (xs ys : List ℕ) → letOut limit (xs ++ ys) ≡ letOut limit xs ++ letOut limit (heldTail limit xs ++ ys)
+  text-cut xs ys = ap joined (tokens-cut xs ys) ∙ joined-append (outTokens limit xs) (outTokens limit (heldTail limit xs ++ ys))
 
 -- ---- sizes
 

@@ -5,8 +5,8 @@ use Prim.Native.Nat.{ℕ, suc, _+_, _-_, _≤_}
 use native.Mathlib.Nat.{add-zero, add-suc, suc-add, zero-add}
 use native.Mathlib.Omega.{arith}
 use lib.ListN.{length, set, take, drop, length-append, length-drop, take-append-drop}
-use lib.Seq.{sets, sets-eq, length-sets, drop-drop, drop-append-le, take-at, take-append-add, take-append-le, length-take-le}
-use borrow.Rule.Slice.PartMut.{putMid, postOf, midOf}
+use lib.Seq.{sets, sets-eq, length-sets, drop-drop, drop-append-le, take-at, length-take-le}
+use borrow.Rule.Slice.PartMut.{putMid, midOf}
 use Rattle.model.specs.NumberedAnswers.{overwrite}
 
 -- a run of stores and then another is the run of both
@@ -54,13 +54,3 @@ front-sets l at vs h =
     let m : length (take at l) ≡ at = length-take-le at l (omega arith) in
     ap (take (at + length vs)) (sets-eq vs l at h)
     ∙ take-at (take at l ++ vs) (drop (at + length vs) l) (at + length vs) (omega (arith, length-append (take at l) vs))
-
--- a part that was lent from `at` on, and came back with n elements known
-pub front-put : (l : List ℕ) (at n : ℕ) (part : List ℕ) → at ≤ length l → n ≤ length part
-    → take (at + n) (putMid at (length l - at) l part) ≡ take at l ++ take n part
-front-put l at n part h k =
-    let m : length (take at l) ≡ at = length-take-le at l h in
-    let post : List ℕ = postOf at (length l - at) l in
-    ap (λ (k : ℕ). take (k + n) (take at l ++ (part ++ post))) (sym m)
-    ∙ take-append-add (take at l) (part ++ post) n
-    ∙ ap (λ (x : List ℕ). take at l ++ x) (take-append-le n part post k)

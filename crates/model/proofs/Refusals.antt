@@ -15,7 +15,7 @@ use Rattle.model.proofs.Accepted.{elements-bad, elements-over, elements
 
 -- What is read is refused, if at all, by a row of the table.
 abbrev Row : ℕ → Type 0
-Row n = (1 ≤ n) × (n ≤ 8)
+Row n = (ruleEmpty ≤ n) × (n ≤ admitsEmpty)
 
 abbrev KindRow : ReadKind → Type 0
 KindRow (bad n) = Row n
@@ -98,5 +98,5 @@ module _ (most : ℕ) (fold : Bool) where
       go (refused n p) h = h
       go (accepted es) h = either-rule (eqb (shortest (positions fold es)) 0) (refused admitsEmpty (length rule)) (accepted es) (omega arith, omega arith) tt
 
-  pub refusal-row : (longest : ℕ) (rule : List ℕ) (n p : ℕ) → parseWithin longest most fold rule ≡ refused n p → (1 ≤ n) × (n ≤ 8)
+  pub refusal-row : (longest : ℕ) (rule : List ℕ) (n p : ℕ) → parseWithin longest most fold rule ≡ refused n p → (ruleEmpty ≤ n) × (n ≤ admitsEmpty)
   refusal-row longest rule n p q = rw q at (rule-row longest rule)

@@ -10,7 +10,7 @@ use Rattle.model.specs.Ascii.{ascii}
 use Rattle.model.specs.Occurrence.{Position, shortest, ends, starts}
 use Rattle.model.specs.RuleText.{foldFlag, otherCase, kindSet, class, byte, gap, once, optional, repeatable}
 use Rattle.model.specs.NumberedAnswers.{accepted, parse, rulePositions, wholeRefusal, overwrite}
-use Rattle.model.specs.References.{formLimit, utf8, decode, heldTail, letOut}
+use Rattle.model.specs.References.{formLimit, utf8, byteTokens, tokensFrom, decode, heldTail, outTokens, letOut}
 use Rattle.model.specs.PlainScan.{feed, finish, refused, reported, refusalFor, plainScan, reportedEnds}
 use Rattle.model.specs.WindowSearch.{windows, shown}
 use Rattle.model.specs.MarkedTable.{same, isRefused}
@@ -163,6 +163,16 @@ references : T (rawHolds (
     ))
 unfolding utf8
 references = tt
+
+-- "a legal reference there gives its bytes and reading goes on after its `;`; any other byte is kept": what each token takes and gives. The tail that is
+-- held back has none yet.
+tokens : tokensFrom formLimit 0 (ascii "a&amp;b")
+    ≡ record { takes = 1; gives = ascii "a" } ∷ record { takes = 5; gives = ascii "&" } ∷ record { takes = 1; gives = ascii "b" } ∷ []
+unfolding utf8
+tokens = refl
+
+tokens-out : outTokens formLimit (ascii "a&am") ≡ byteTokens (ascii "a")
+tokens-out = refl
 
 -- ---- the lister's example
 

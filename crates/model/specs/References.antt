@@ -108,8 +108,16 @@ pub record Token : Type 0 where
   pub takes : ℕ
   pub gives : List ℕ
 
+-- A byte that is kept, and bytes that are kept one by one.
+abbrev pub byteToken : ℕ → Token
+byteToken c = record { takes = 1; gives = c ∷ [] }
+
+abbrev pub byteTokens : List ℕ → List Token
+byteTokens [] = []
+byteTokens (c ∷ cs) = byteToken c ∷ byteTokens cs
+
 abbrev pub tokenBy : (c : ℕ) → Found → Token
-tokenBy c none = record { takes = 1; gives = c ∷ [] }
+tokenBy c none = byteToken c
 tokenBy c (found n k) = record { takes = k; gives = utf8 n }
 
 -- "A plan decodes from its first byte on". The first `skip` bytes belong to a token already read.
@@ -119,6 +127,11 @@ tokensFrom limit (suc k) (c ∷ cs) = tokensFrom limit k cs
 tokensFrom limit zero (c ∷ cs) =
     let t = tokenBy c (referenceAt limit (c ∷ cs)) in
     t ∷ tokensFrom limit (pred (t .takes)) cs
+
+-- The raw bytes that tokens take, and the text that they give.
+abbrev pub taken : List Token → ℕ
+taken [] = 0
+taken (t ∷ ts) = t .takes + taken ts
 
 abbrev pub joined : List Token → List ℕ
 joined [] = []
@@ -177,6 +190,9 @@ heldTail limit (c ∷ cs) = elim (canGrow limit (c ∷ cs)) [ true ↦ c ∷ cs 
 abbrev pub withoutTail : (limit : ℕ) → List ℕ → List ℕ
 withoutTail limit cs = take (length cs - length (heldTail limit cs)) cs
 
--- What bytes let out between pieces: what they decode to without their held tail.
+-- What bytes let out between pieces: the tokens of them without their held tail, and the text that those give.
+abbrev pub outTokens : (limit : ℕ) → List ℕ → List Token
+outTokens limit cs = tokensFrom limit 0 (withoutTail limit cs)
+
 abbrev pub letOut : (limit : ℕ) → List ℕ → List ℕ
-letOut limit cs = decode limit (withoutTail limit cs)
+letOut limit cs = joined (outTokens limit cs)

@@ -8,7 +8,7 @@ use native.Mathlib.Decide.{decLe}
 use native.Mathlib.Omega.{arith}
 use lib.ListN.{length, take, drop, getD, set, length-append, length-take, length-set, drop-of-length-le}
 use lib.Seq.{drop-cons, take-all, take-suc-set, take-append-add, drop-append-add, length-take-le}
-use Rattle.model.specs.References.{formLimit, heldMost, found, referenceAt, utf8, canGrow, heldTail, letOut}
+use Rattle.model.specs.References.{formLimit, heldMost, found, referenceAt, utf8, canGrow, heldTail, outTokens}
 use Rattle.model.proofs.Truth.{T-to}
 use Rattle.model.proofs.Forms.{not-none}
 use Rattle.model.proofs.Borders.{ref-local, ref-growing}
@@ -19,7 +19,7 @@ use Rattle.piece_decoder.specs.declared.held.Held.{Held}
 use Rattle.piece_decoder.specs.declared.held.HeldOutcome.the-variants.{Completed, Literal as LetOut, Pending}
 use Rattle.reference_reader.specs.Reader.{reading, Moves, ReadIs}
 use Rattle.piece_decoder.specs.Held.{heldOf, HeldFine, TopUpIs, ResolvedIs}
-use Rattle.model.proofs.Cuts.{letOut-reference, held-reference, letOut-passed, held-passed, letOut-open, held-open, held-grows}
+use Rattle.model.proofs.Cuts.{out-reference, held-reference, out-passed, held-passed, out-open, held-open, held-grows}
 use Rattle.reference_reader.proofs.Readings.{reading-front, decoded-told, literal-told, incomplete-told}
 
 -- ---- `top_up`
@@ -99,13 +99,13 @@ longer (c ∷ xs) ys n k e q = go (decLe k (length (c ∷ xs)))
 -- what can grow is held whole, lets nothing out, and is short of a form
 record Grows (xs : List ℕ) : Type 0 where
   holds : heldTail formLimit xs ≡ xs
-  lets-out : letOut formLimit xs ≡ []
+  lets-out : outTokens formLimit xs ≡ []
   short : length xs < formLimit
 
 grows-whole : (xs : List ℕ) → canGrow formLimit xs ≡ true → Grows xs
 grows-whole [] q = record { holds = refl; lets-out = refl; short = omega arith }
 grows-whole (c ∷ xs) q =
-    record { holds = held-open formLimit c xs q; lets-out = letOut-open formLimit c xs q; short = growing-length formLimit (c ∷ xs) (T-to (sym q) tt) }
+    record { holds = held-open formLimit c xs q; lets-out = out-open formLimit c xs q; short = growing-length formLimit (c ∷ xs) (T-to (sym q) tt) }
 
 module _ (h : Held) (piece : List ℕ) (fine : HeldFine h) (j : Held) (x : TopUpIs h piece j) (r : Reference) (y : ReadIs (heldOf j) r) where
   abbrev whole : List ℕ
@@ -135,7 +135,10 @@ module _ (h : Held) (piece : List ℕ) (fine : HeldFine h) (j : Held) (x : TopUp
         record {
           joins = x;
           is = record {
-            lets-out = letOut-reference formLimit whole code k told ∙ ap (λ (l : List ℕ). utf8 code ++ letOut formLimit l) after;
+            lets-out =
+                out-reference formLimit whole code k told
+                ∙ ap (λ (l : List ℕ). record { takes = k; gives = utf8 code } ∷ outTokens formLimit l) after
+                ∙ ap (λ (n : ℕ). record { takes = n; gives = utf8 code } ∷ outTokens formLimit (drop (k - h .len) piece)) z;
             holds = held-reference formLimit whole code k told ∙ ap (heldTail formLimit) after;
             fits = omega (arith, ap length (x .is), length-take formLimit whole, length-append (heldOf h) piece);
             few = omega arith;
@@ -149,7 +152,7 @@ module _ (h : Held) (piece : List ℕ) (fine : HeldFine h) (j : Held) (x : TopUp
       record {
         joins = x;
         is = record {
-          lets-out = letOut-passed formLimit (heldOf h) piece (fine .tail) (q .1) (q .0);
+          lets-out = out-passed formLimit (heldOf h) piece (fine .tail) (q .1) (q .0);
           holds = held-passed formLimit (heldOf h) piece (fine .tail) (q .1);
         };
       }

@@ -1,9 +1,9 @@
--- What held bytes become when a piece follows: the two laws over a cut, at the held bytes. Assumes nothing.
+-- What held bytes become when a piece follows: the two laws over a cut, at the held bytes. What is let out is said of tokens. Assumes nothing.
 use mathlib.Core.Path.{_≡_}
-use mathlib.Core.List.{List, [], _++_}
+use mathlib.Core.List.{List, [], _∷_, _++_}
 use Prim.Native.Nat.{ℕ, _+_, _≤_, _<_}
 use lib.ListN.{length, take, drop}
-use Rattle.model.specs.References.{formLimit, heldMost, utf8, heldTail, letOut}
+use Rattle.model.specs.References.{formLimit, heldMost, utf8, byteTokens, heldTail, outTokens}
 use Rattle.reference_reader.specs.Reader.{codeLimit}
 use Rattle.piece_decoder.specs.declared.held.Held.{Held}
 use Rattle.piece_decoder.specs.declared.held.HeldOutcome.{HeldOutcome}
@@ -13,6 +13,12 @@ use Rattle.piece_decoder.specs.declared.held.Resolved.{Resolved}
 -- The held bytes, as a list.
 abbrev pub heldOf : Held → List ℕ
 heldOf h = take (h .len) (h .bytes)
+
+-- `nothing_held`
+pub record NothingHeld (h : Held) : Type 0 where
+  pub is : heldOf h ≡ []
+  pub none : h .len ≡ 0
+  pub long : length (h .bytes) ≡ formLimit
 
 -- What is held is a tail that can grow, or nothing.
 pub record HeldFine (h : Held) : Type 0 where
@@ -29,7 +35,7 @@ pub record TopUpIs (h : Held) (piece : List ℕ) (r : Held) : Type 0 where
 
 -- A reference was completed with `taken` bytes of the piece; reading goes on after them.
 pub record CompletedIs (h piece : List ℕ) (code taken : ℕ) : Type 0 where
-  pub lets-out : letOut formLimit (h ++ piece) ≡ utf8 code ++ letOut formLimit (drop taken piece)
+  pub lets-out : outTokens formLimit (h ++ piece) ≡ record { takes = length h + taken; gives = utf8 code } ∷ outTokens formLimit (drop taken piece)
   pub holds : heldTail formLimit (h ++ piece) ≡ heldTail formLimit (drop taken piece)
   pub fits : taken ≤ length piece
   pub few : length (utf8 code) ≤ length h + taken
@@ -37,12 +43,12 @@ pub record CompletedIs (h piece : List ℕ) (code taken : ℕ) : Type 0 where
 
 -- The held bytes go out as they came; reading goes on at the piece's first byte.
 pub record LiteralIs (h piece : List ℕ) : Type 0 where
-  pub lets-out : letOut formLimit (h ++ piece) ≡ h ++ letOut formLimit piece
+  pub lets-out : outTokens formLimit (h ++ piece) ≡ byteTokens h ++ outTokens formLimit piece
   pub holds : heldTail formLimit (h ++ piece) ≡ heldTail formLimit piece
 
 -- All can still grow and is held now, in `joined`.
 pub record PendingIs (h piece : List ℕ) (joined : Held) : Type 0 where
-  pub lets-out : letOut formLimit (h ++ piece) ≡ []
+  pub lets-out : outTokens formLimit (h ++ piece) ≡ []
   pub holds : heldTail formLimit (h ++ piece) ≡ h ++ piece
   pub is : heldOf joined ≡ h ++ piece
   pub fine : HeldFine joined

@@ -1,7 +1,7 @@
 // Bytes held back at the end of a piece, and what they become when the next one follows.
 ghost use Prim.Native.Nat.{_≤_};
 ghost use Rattle.model.specs.References.{formLimit, heldMost};
-ghost use Rattle.piece_decoder.specs.Held.{HeldFine, TopUpIs, ResolvedIs};
+ghost use Rattle.piece_decoder.specs.Held.{NothingHeld, HeldFine, TopUpIs, ResolvedIs};
 use limits::FORM_LIMIT;
 use reference_reader::Reference;
 
@@ -10,6 +10,16 @@ use reference_reader::Reference;
 pub struct Held {
     pub bytes: [u8; FORM_LIMIT],
     pub len: usize,
+}
+
+// No bytes held back.
+pub fn nothing_held() -> Held
+    ensures { λ r. ⌜ NothingHeld r ⌝ }
+{
+    Held {
+        bytes: [0u8; FORM_LIMIT],
+        len: 0,
+    }
 }
 
 // What becomes of held bytes when a piece follows. `Completed`: with so many bytes of the piece they

@@ -1,48 +1,53 @@
-// What a piece lets out, decoded into a chunk, so that it can be stepped over in one scan.
+// What raw bytes let out, as tokens: one loop decodes them, for a whole text and for the parts of a
+// piece; and a piece goes chunk by chunk, literal bytes where they stand and others through a room.
 pub mod held;
 
+ghost use mathlib.Core.Path.{_≡_};
 ghost use Prim.Native.Nat.{_+_, _≤_, _<_};
 ghost use lib.ListN.{length};
-ghost use Rattle.piece_decoder.specs.Chunks.{TokenIs, ChunkDecodedIs};
+ghost use Rattle.piece_decoder.specs.Chunks.{TokenIs, TokensDecodedIs, chunkSize, PartEnd, InPlaceIs, ChunkIs};
 use reference_reader::Reference;
 
-// After one token: how far the piece is read and the chunk written, and whether the rest is held back.
-pub struct Token {
+// ---- tokens
+
+// After some tokens: how far the raw bytes are read and the buffer written, and whether the rest is held
+// back.
+pub struct TokenRead {
     pub read: usize,
     pub written: usize,
     pub held: bool,
 }
 
-// One reference, or one byte that begins none; or all the rest, if it can still grow.
-fn decode_amp(piece: &[u8], i: usize, chunk: &mut [u8], at: usize) -> Token
-    requires { ⌜ i < length (now piece) ⌝ }
-    requires { ⌜ at + length (now piece) ≤ length (now chunk) + i ⌝ }
-    ensures { λ r. ⌜ TokenIs (now (piece .entry)) i (now (chunk .entry)) at r (now (chunk .exit)) ⌝ }
+// One reference, or one byte that begins none; or all the rest is held back, if it can still grow.
+fn decode_amp(raw: &[u8], i: usize, out: &mut [u8], at: usize) -> TokenRead
+    requires { ⌜ i < length (now raw) ⌝ }
+    requires { ⌜ at + length (now raw) ≤ length (now out) + i ⌝ }
+    ensures { λ r. ⌜ TokenIs (now (raw .entry)) i (now (out .entry)) at r (now (out .exit)) ⌝ }
 {
-    let found = reference_reader::read_reference(&piece[i..]);
+    let found = reference_reader::read_reference(&raw[i..]);
     match found {
         Reference::Decoded(code, k) => {
-            let n = reference_reader::put_utf8(&mut chunk[at..], code);
+            let n = reference_reader::put_utf8(&mut out[at..], code);
             let after = i + k;
             let end = at + n;
-            return Token {
+            return TokenRead {
                 read: after,
                 written: end,
                 held: false,
             };
         }
         Reference::Literal => {
-            chunk[at] = piece[i];
+            out[at] = raw[i];
             let after = i + 1;
             let end = at + 1;
-            return Token {
+            return TokenRead {
                 read: after,
                 written: end,
                 held: false,
             };
         }
         Reference::Incomplete => {
-            return Token {
+            return TokenRead {
                 read: i,
                 written: at,
                 held: true,
@@ -52,50 +57,125 @@ fn decode_amp(piece: &[u8], i: usize, chunk: &mut [u8], at: usize) -> Token
 }
 
 // The same, or a run of bytes up to the next `&`.
-fn decode_token(piece: &[u8], i: usize, chunk: &mut [u8], at: usize) -> Token
-    requires { ⌜ i < length (now piece) ⌝ }
-    requires { ⌜ at + length (now piece) ≤ length (now chunk) + i ⌝ }
-    ensures { λ r. ⌜ TokenIs (now (piece .entry)) i (now (chunk .entry)) at r (now (chunk .exit)) ⌝ }
+fn decode_token(raw: &[u8], i: usize, out: &mut [u8], at: usize) -> TokenRead
+    requires { ⌜ i < length (now raw) ⌝ }
+    requires { ⌜ at + length (now raw) ≤ length (now out) + i ⌝ }
+    ensures { λ r. ⌜ TokenIs (now (raw .entry)) i (now (out .entry)) at r (now (out .exit)) ⌝ }
 {
-    if piece[i] == b'&' {
-        return decode_amp(piece, i, chunk, at);
+    if raw[i] == b'&' {
+        return decode_amp(raw, i, out, at);
     }
-    let n = literal_run::copy_literals_overrun(&piece[i..], &mut chunk[at..]);
+    let n = literal_run::copy_literals(&raw[i..], &mut out[at..]);
     let after = i + n;
     let end = at + n;
-    Token {
+    TokenRead {
         read: after,
         written: end,
         held: false,
     }
 }
 
-// How far the piece is let out, and the chunk written.
-pub struct ChunkDecoded {
-    pub kept: usize,
+// How far the raw bytes are let out, and the buffer written.
+pub struct TokensDecoded {
+    pub read: usize,
     pub written: usize,
 }
 
-// Decodes all that the piece lets out to the front of the chunk.
-pub fn decode_chunk(piece: &[u8], chunk: &mut [u8]) -> ChunkDecoded
-    requires { ⌜ length (now piece) ≤ length (now chunk) ⌝ }
-    ensures { λ r. ⌜ ChunkDecodedIs (now (piece .entry)) (now (chunk .entry)) r (now (chunk .exit)) ⌝ }
+// Decodes all that the raw bytes let out to the front of `out`. What they hold back is their end.
+pub fn decode_tokens(raw: &[u8], out: &mut [u8]) -> TokensDecoded
+    requires { ⌜ length (now raw) ≤ length (now out) ⌝ }
+    ensures { λ r. ⌜ TokensDecodedIs (now (raw .entry)) (now (out .entry)) r (now (out .exit)) ⌝ }
 {
     let mut i = 0;
     let mut at = 0;
-    while i < piece.len() {
-        let t = decode_token(piece, i, chunk, at);
+    while i < raw.len() {
+        let t = decode_token(raw, i, out, at);
         if t.held {
-            return ChunkDecoded {
-                kept: t.read,
+            return TokensDecoded {
+                read: t.read,
                 written: t.written,
             };
         }
         i = t.read;
         at = t.written;
     }
-    ChunkDecoded {
-        kept: i,
+    TokensDecoded {
+        read: i,
         written: at,
+    }
+}
+
+// ---- chunks of a piece
+
+// From so many literal bytes on they are handed on where they stand: a copy would cost more than it saves.
+const IN_PLACE_FROM: usize = 1024;
+
+// Whether those from i to e are: they are so many, or all the rest. Only speed depends on the choice.
+fn in_place(i: usize, e: usize, len: usize) -> bool
+    requires { ⌜ i ≤ e ⌝ }
+{
+    if e == len {
+        return true;
+    }
+    IN_PLACE_FROM <= e - i
+}
+
+// The end of the literal bytes from i on that are handed on where they stand; i itself, if the next
+// bytes go through the room.
+pub fn literal_chunk(piece: &[u8], i: usize) -> usize
+    requires { ⌜ i < length (now piece) ⌝ }
+    ensures { λ r. ⌜ InPlaceIs (now (piece .entry)) i r ⌝ }
+{
+    let e = reference_search::literal_end(piece, i);
+    if in_place(i, e, piece.len()) {
+        return e;
+    }
+    i
+}
+
+// As many bytes as the room takes: a part of a piece with references is decoded there first, so that it is
+// one text, since many short texts are slow to step over.
+pub const CHUNK: usize = 4096;
+
+// The end of the part that begins at i.
+fn part_end(i: usize, len: usize) -> usize
+    requires { ⌜ i < len ⌝ }
+    ensures { λ r. ⌜ PartEnd i len r ⌝ }
+{
+    if len - i <= CHUNK {
+        return len;
+    }
+    i + CHUNK
+}
+
+// After a chunk: how far the piece is read and the room written, and whether the rest of the piece is
+// held back.
+pub struct Chunk {
+    pub read: usize,
+    pub written: usize,
+    pub held: bool,
+}
+
+// A part of a piece, from i on, decoded into the room. What the part holds back begins the next one, and
+// is held back if the piece ends there.
+pub fn decode_chunk(piece: &[u8], i: usize, room: &mut [u8]) -> Chunk
+    requires { ⌜ i < length (now piece) ⌝ }
+    requires { ⌜ length (now room) ≡ chunkSize ⌝ }
+    ensures { λ r. ⌜ ChunkIs (now (piece .entry)) i (now (room .entry)) r (now (room .exit)) ⌝ }
+{
+    let k = part_end(i, piece.len());
+    let f = decode_tokens(&piece[i..k], room);
+    let after = i + f.read;
+    if k < piece.len() {
+        return Chunk {
+            read: after,
+            written: f.written,
+            held: false,
+        };
+    }
+    Chunk {
+        read: after,
+        written: f.written,
+        held: after < k,
     }
 }

@@ -9,9 +9,10 @@ use lib.Dec.{T, eqb}
 use lib.ListN.{length, take, drop, getD, drop-of-length-le, length-drop, take-append-drop}
 use lib.Seq.{drop-cons, drop-drop, take-all}
 use borrow.Author.Tests.{ne-eqb, eqb-false, eqb-true}
-use Rattle.model.specs.References.{formLimit, none, referenceAt, notAmp, canGrow, heldTail, letOut}
+use Rattle.model.specs.References.{formLimit, none, referenceAt, Token, byteToken, byteTokens, notAmp, canGrow, heldTail, outTokens}
 use Rattle.model.proofs.Truth.{or-false-left, or-false-right, T-to}
-use Rattle.model.proofs.Cuts.{held-none, letOut-none, held-plain, letOut-plain}
+use Rattle.model.proofs.Decoding.{byteTokens-append}
+use Rattle.model.proofs.Cuts.{held-none, out-none, held-plain, out-plain}
 use Rattle.byte_search.specs.BlockTests.{NoneBefore, LaneOrEnd, same}
 use Rattle.byte_search.proofs.BlockLaws.{Nearest, near-on, miss-one, miss-join, miss-first}
 use Rattle.reference_search.specs.Candidates.{mayFollowAmp, candidateAt, LiteralEnd}
@@ -83,21 +84,21 @@ module _ (d : ℕ) (cs : List ℕ) (e : mayFollowAmp d ≡ false) where
 -- a byte at which none begins goes out as it came
 module _ (c d : ℕ) (cs : List ℕ) where
   go-out : (b : Bool) → eqb c 38 ≡ b → (b && mayFollowAmp d) ≡ false
-      → (letOut formLimit (c ∷ d ∷ cs) ≡ c ∷ letOut formLimit (d ∷ cs)) × (heldTail formLimit (c ∷ d ∷ cs) ≡ heldTail formLimit (d ∷ cs))
+      → (outTokens formLimit (c ∷ d ∷ cs) ≡ byteToken c ∷ outTokens formLimit (d ∷ cs)) × (heldTail formLimit (c ∷ d ∷ cs) ≡ heldTail formLimit (d ∷ cs))
   go-out false e z =
       let t : T (notAmp c) = T-to (ap not (sym e)) tt in
-      (letOut-plain formLimit c (d ∷ cs) t, held-plain formLimit c (d ∷ cs) t)
+      (out-plain formLimit c (d ∷ cs) t, held-plain formLimit c (d ∷ cs) t)
   go-out true e z =
       let k : c ≡ 38 = eqb-true c 38 e in
       let gr : canGrow formLimit (c ∷ d ∷ cs) ≡ false = ap (λ (c : ℕ). canGrow formLimit (c ∷ d ∷ cs)) k ∙ no-growth d cs z in
       let rf : referenceAt formLimit (c ∷ d ∷ cs) ≡ none = ap (λ (c : ℕ). referenceAt formLimit (c ∷ d ∷ cs)) k ∙ no-reference d cs z in
-      (letOut-none formLimit c (d ∷ cs) gr rf, held-none formLimit c (d ∷ cs) gr)
+      (out-none formLimit c (d ∷ cs) gr rf, held-none formLimit c (d ∷ cs) gr)
 
 -- ---- a run of them
 
 module _ (text : List ℕ) where
   record Out (i n : ℕ) : Type 0 where
-    lets-out : letOut formLimit (drop i text) ≡ take n (drop i text) ++ letOut formLimit (drop (i + n) text)
+    lets-out : outTokens formLimit (drop i text) ≡ byteTokens (take n (drop i text)) ++ outTokens formLimit (drop (i + n) text)
     holds : heldTail formLimit (drop i text) ≡ heldTail formLimit (drop (i + n) text)
 
   outs : (n i : ℕ) → i + n < length text → ((k : ℕ) → i ≤ k → k < i + n → candidateAt text k ≡ false) → Out i n
@@ -114,10 +115,10 @@ module _ (text : List ℕ) where
       let s : suc i + n ≡ i + suc n = omega arith in
       record {
         lets-out =
-            ap (letOut formLimit) w ∙ o .0 ∙ ap (λ (l : List ℕ). c ∷ letOut formLimit l) (sym v)
-            ∙ ap (λ (l : List ℕ). c ∷ l) (r .lets-out)
-            ∙ ap (λ (k : ℕ). c ∷ (take n (drop (suc i) text) ++ letOut formLimit (drop k text))) s
-            ∙ ap (λ (l : List ℕ). take (suc n) l ++ letOut formLimit (drop (i + suc n) text)) (sym u);
+            ap (outTokens formLimit) w ∙ o .0 ∙ ap (λ (l : List ℕ). byteToken c ∷ outTokens formLimit l) (sym v)
+            ∙ ap (λ (l : List Token). byteToken c ∷ l) (r .lets-out)
+            ∙ ap (λ (k : ℕ). byteToken c ∷ (byteTokens (take n (drop (suc i) text)) ++ outTokens formLimit (drop k text))) s
+            ∙ ap (λ (l : List ℕ). byteTokens (take (suc n) l) ++ outTokens formLimit (drop (i + suc n) text)) (sym u);
         holds = ap (heldTail formLimit) w ∙ o .1 ∙ ap (heldTail formLimit) (sym v) ∙ r .holds ∙ ap (λ (k : ℕ). heldTail formLimit (drop k text)) s;
       }
 
@@ -131,7 +132,7 @@ module _ (text : List ℕ) where
         record {
           fore = a;
           fits = omega arith;
-          lets-out = o .lets-out ∙ ap (λ (k : ℕ). take (e - i) (drop i text) ++ letOut formLimit (drop k text)) k;
+          lets-out = o .lets-out ∙ ap (λ (k : ℕ). byteTokens (take (e - i) (drop i text)) ++ outTokens formLimit (drop k text)) k;
           holds = o .holds ∙ ap (λ (k : ℕ). heldTail formLimit (drop k text)) k;
         }
 
@@ -166,9 +167,11 @@ module _ (text : List ℕ) where
             fits = omega arith;
             lets-out =
                 o .lets-out
-                ∙ ap (λ (l : List ℕ). take (e - i) (drop i text) ++ letOut formLimit l) one
-                ∙ ap (λ (l : List ℕ). take (e - i) (drop i text) ++ l) (letOut-plain formLimit (getD text e 0) [] t ∙ sym one)
-                ∙ join ∙ sym all ∙ sym (append-nil (take (length text - i) (drop i text)))
-                ∙ ap (λ (l : List ℕ). take (length text - i) (drop i text) ++ letOut formLimit l) (sym w);
+                ∙ ap (λ (l : List ℕ). byteTokens (take (e - i) (drop i text)) ++ outTokens formLimit l) one
+                ∙ ap (λ (l : List Token). byteTokens (take (e - i) (drop i text)) ++ l) (out-plain formLimit (getD text e 0) [] t ∙ sym (ap byteTokens one))
+                ∙ sym (byteTokens-append (take (e - i) (drop i text)) (drop e text))
+                ∙ ap byteTokens (join ∙ sym all)
+                ∙ sym (append-nil (byteTokens (take (length text - i) (drop i text))))
+                ∙ ap (λ (l : List ℕ). byteTokens (take (length text - i) (drop i text)) ++ outTokens formLimit l) (sym w);
             holds = o .holds ∙ ap (heldTail formLimit) one ∙ held-plain formLimit (getD text e 0) [] t ∙ ap (heldTail formLimit) (sym w);
           }

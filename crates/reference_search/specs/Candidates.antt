@@ -5,7 +5,7 @@ use mathlib.Core.List.{List, _++_}
 use Prim.Native.Nat.{ℕ, _+_, _-_, _≤_}
 use lib.Dec.{eqb}
 use lib.ListN.{length, take, drop, getD}
-use Rattle.model.specs.References.{formLimit, heldTail, letOut}
+use Rattle.model.specs.References.{formLimit, byteTokens, heldTail, outTokens}
 
 -- the second byte of a form: `#`, or the first letter of a name
 abbrev pub mayFollowAmp : ℕ → Bool
@@ -19,5 +19,5 @@ candidateAt text k = eqb (getD text k 0) 38 && mayFollowAmp (getD text (k + 1) 0
 pub record LiteralEnd (text : List ℕ) (i r : ℕ) : Type 0 where
   pub fore : i ≤ r
   pub fits : r ≤ length text
-  pub lets-out : letOut formLimit (drop i text) ≡ take (r - i) (drop i text) ++ letOut formLimit (drop r text)
+  pub lets-out : outTokens formLimit (drop i text) ≡ byteTokens (take (r - i) (drop i text)) ++ outTokens formLimit (drop r text)
   pub holds : heldTail formLimit (drop i text) ≡ heldTail formLimit (drop r text)

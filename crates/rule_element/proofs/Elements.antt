@@ -17,7 +17,7 @@ use Rattle.rule_element.specs.declared.Often.{Often}
 use Rattle.rule_element.specs.declared.ElementAnswer.the-variants.{Got}
 use Rattle.rule_element.specs.declared.ElementResult.{ElementResult}
 use Rattle.rule_element.specs.Reading.{KindFits, kindOf, setOf, kindAnswerBy, ReadsKind, oftenOf, markAt, oftenBy, bytesOf, sizeOf, noElement, readBy, ReadsElement}
-use Rattle.rule_element.proofs.Ends.{past-end}
+use Rattle.rule_class.proofs.Ends.{past-end}
 
 -- ---- an element
 
@@ -98,7 +98,7 @@ module _ (fold : Bool) (used : ℕ) (s : List ℕ) (at : ℕ) (k : KindResult) (
       is-size = em ∙ ap sizeOf (got .is-kind) ∙ size-same used (got .model)
 
       pub element-over : positionLimit - used < m → (r : ElementResult) → r ≡ noElement tooManyPositions → ReadsElement fold used s at r
-      element-over o r q = no-read 7 r q (rw (got .is, lt-leb (used + Model.size (got .model)) positionLimit (omega (arith, is-size))))
+      element-over o r q = no-read tooManyPositions r q (rw (got .is, lt-leb (used + Model.size (got .model)) positionLimit (omega (arith, is-size))))
 
       module _ (o : m ≤ positionLimit - used) (f : Often) (ef : f ≡ oftenBy kind (markAt s after)) (b : ℕ) (eb : b ≡ bytesOf f) where
         abbrev mark : Model.Often

@@ -1,34 +1,64 @@
--- The laws of `read_kind`, `read_mark` and `read_often`. On plain values. Assumes nothing.
+-- The laws of `read_gap`, `stray`, `read_kind`, `read_mark` and `read_often`. On plain values. Assumes nothing.
 use mathlib.Core.Path.{_≡_, refl, sym, ap, _∙_}
 use mathlib.Core.List.{List, [], _∷_}
 use mathlib.Core.Bool.{Bool, true, false, cond}
-use Prim.Native.Nat.{ℕ, suc, _+_, _≤_, _<_}
+use Prim.Native.Nat.{ℕ, suc, _+_, _-_, _≤_, _<_}
 use native.Mathlib.Omega.{arith}
 use native.Mathlib.Nat.{add-zero}
 use lib.ListN.{length, getD, drop}
 use lib.Seq.{drop-cons}
 use borrow.Author.Tests.{eq-eqb, ne-eqb}
-use Rattle.model.specs.RefusalNumbers.{markFault, byteFault}
+use Rattle.model.specs.Ascii.{ascii}
+use Rattle.model.specs.RefusalNumbers.{gapFault, markFault, byteFault}
 use Rattle.model.specs.RuleText as Model
-use Rattle.model.specs.RuleText.{noEnd, anEnd, bad, good, byte, escapedEnd, escapeAt, kindAt, oftenAt}
+use Rattle.model.specs.RuleText.{noEnd, anEnd, bad, good, byte, gapAt, escapedEnd, escapeAt, oneOf, kindAt, oftenAt}
+use Rattle.byte_set.specs.Sets.{none}
+use Rattle.rule_class.specs.declared.ClassByte.{ClassByte}
+use Rattle.rule_class.specs.declared.ClassByte.the-variants.{Byte, Wrong}
+use Rattle.rule_class.specs.Items.{ReadsEscape}
+use Rattle.rule_class.proofs.Ends.{byte-at, end-found, end-missed}
+use Rattle.rule_gap.specs.declared.Bounds.{Bounds}
+use Rattle.rule_gap.specs.declared.Bounds.the-variants.{Both, Wrong as NoBounds}
+use Rattle.rule_gap.specs.Bounds.{gapBy, ReadsBounds}
 use Rattle.rule_element.specs.declared.Kind.{Kind}
-use Rattle.rule_element.specs.declared.Kind.the-variants.{Byte as AByte, Any, Class}
+use Rattle.rule_element.specs.declared.Kind.the-variants.{Byte as AByte, Any, Class, Gap}
 use Rattle.rule_element.specs.declared.KindAnswer.the-variants.{Spelt}
 use Rattle.rule_element.specs.declared.KindResult.{KindResult}
-use Rattle.rule_element.specs.declared.ClassByte.{ClassByte}
-use Rattle.rule_element.specs.declared.ClassByte.the-variants.{Byte, Wrong}
 use Rattle.rule_element.specs.declared.Often.{Often}
 use Rattle.rule_element.specs.declared.Often.the-variants.{Once, Optional, Repeatable, Both}
-use Rattle.byte_set.specs.Sets.{none}
-use Rattle.rule_element.specs.Reading.{refusedKind, kindAnswerBy, ReadsBracket, ReadsGap, plainOf, ReadsKind, ReadsEscape, oftenOf, markAt, oftenBy}
-use Rattle.rule_element.proofs.Ends.{end-found, end-missed}
-use Rattle.rule_element.proofs.Gaps.{byte-at, gap-same}
+use Rattle.rule_element.specs.Reading.{refusedKind, kindAnswerBy, ReadsBracket, ReadsGap, plainOf, strayOf, ReadsKind, oftenOf, markAt, oftenBy}
+
+-- ---- a gap
+
+module _ (s : List ℕ) (at : ℕ) (x : Bounds) (rx : ReadsBounds s at x) where
+  by-bounds : (y : Bounds) → x ≡ y → (fold : Bool) (used : ℕ) → kindAnswerBy fold used at (gapAt (drop (suc at) s)) ≡ kindAnswerBy fold used at (gapBy at y)
+  by-bounds y e fold used = ap (kindAnswerBy fold used at) (rx .is ∙ ap (gapBy at) e)
+
+  pub gap-wrong : x ≡ NoBounds → (r : KindResult) → r ≡ refusedKind gapFault → ReadsGap s at r
+  gap-wrong e r q = record { is = λ fold used. q ∙ sym (by-bounds NoBounds e fold used); moves = rw q tt }
+
+  pub gap-good : (a b next : ℕ) → x ≡ Both a b next → ReadsGap s at (record { answer = Spelt (Gap a b) next; set = none })
+  gap-good a b next e =
+      let m : (at < next) × (next ≤ length s) × ((a ≤ b) × (1 ≤ b) × (b ≤ 99)) = rw e at (rx .moves) in
+      let l = m .0 in
+      let n : next ≡ at + (next - at) = omega arith in
+      record {
+        is = λ fold used. ap (λ (j : ℕ). record { answer = Spelt (Gap a b) j; set = none }) n ∙ sym (by-bounds (Both a b next) e fold used);
+        moves = m;
+      }
 
 -- ---- any kind
 
 abbrev kindOfEnd : Model.ReadEnd → Model.ReadKind
 kindOfEnd noEnd = bad byteFault
 kindOfEnd (anEnd c n) = good (byte c) n
+
+-- the model's last tests: a mark, a stray bracket or brace, and else k
+abbrev kindOfStray : Model.ReadKind → (mark bracket : Bool) → Model.ReadKind
+kindOfStray k m b = cond m (bad markFault) (cond b (bad byteFault) k)
+
+pub stray-none : (c : ℕ) → (c ≡ 63 → ⊥) → (c ≡ 43 → ⊥) → (c ≡ 42 → ⊥) → (c ≡ 93 → ⊥) → (c ≡ 125 → ⊥) → 0 ≡ strayOf c
+stray-none c n1 n2 n3 n4 n5 = simp (ne-eqb _ _ n1, ne-eqb _ _ n2, ne-eqb _ _ n3, ne-eqb _ _ n4, ne-eqb _ _ n5)
 
 module _ (fold : Bool) (used : ℕ) (s : List ℕ) (at : ℕ) (h : at < length s) where
   abbrev c : ℕ
@@ -52,7 +82,7 @@ module _ (fold : Bool) (used : ℕ) (s : List ℕ) (at : ℕ) (h : at < length s
 
     module _ (n2 : c ≡ 91 → ⊥) where
       pub kind-gap : c ≡ 123 → (r : KindResult) → ReadsGap s at r → ReadsKind fold used s at r
-      kind-gap e r rc = record { is = rw (here, ne-eqb _ _ n1, ne-eqb _ _ n2, eq-eqb _ _ e) (rc .is ∙ gap-same fold used at cs); moves = rc .moves }
+      kind-gap e r rc = record { is = rw (here, ne-eqb _ _ n1, ne-eqb _ _ n2, eq-eqb _ _ e) (rc .is fold used); moves = rc .moves }
 
       module _ (n3 : c ≡ 123 → ⊥) where
         module _ (e : c ≡ 92) (b : ClassByte) (rb : ReadsEscape s at b) where
@@ -69,7 +99,7 @@ module _ (fold : Bool) (used : ℕ) (s : List ℕ) (at : ℕ) (h : at < length s
           by-escape = rw (here, ne-eqb _ _ n1, ne-eqb _ _ n2, ne-eqb _ _ n3, eq-eqb _ _ e) (sym (escape-as cs))
 
           pub kind-no-escape : b ≡ Wrong → (r : KindResult) → r ≡ refusedKind byteFault → ReadsKind fold used s at r
-          kind-no-escape f r q = no-kind 6 r q (by-escape ∙ ap kindOfEnd (end-missed at (escapedEnd cs) (sym f ∙ rb .is)))
+          kind-no-escape f r q = no-kind byteFault r q (by-escape ∙ ap kindOfEnd (end-missed at (escapedEnd cs) (sym f ∙ rb .is)))
 
           pub kind-escape : (v next : ℕ) → b ≡ Byte v next → (r : KindResult) → r ≡ plainOf v next → ReadsKind fold used s at r
           kind-escape v next f r q =
@@ -81,33 +111,26 @@ module _ (fold : Bool) (used : ℕ) (s : List ℕ) (at : ℕ) (h : at < length s
               }
 
         module _ (n4 : c ≡ 92 → ⊥) where
-          pub kind-question : c ≡ 63 → (r : KindResult) → r ≡ refusedKind markFault → ReadsKind fold used s at r
-          kind-question e r q = no-kind 5 r q (rw (here, ne-eqb _ _ n1, ne-eqb _ _ n2, ne-eqb _ _ n3, ne-eqb _ _ n4, eq-eqb _ _ e))
+          -- the byte's refusal, n
+          module _ (n : ℕ) (en : n ≡ strayOf c) where
+            by-stray : kindAt fold (drop at s) ≡ kindOfStray (good (byte c) 1) (oneOf (ascii "?+*") c) (oneOf (ascii "]}") c)
+            by-stray = rw (here, ne-eqb _ _ n1, ne-eqb _ _ n2, ne-eqb _ _ n3, ne-eqb _ _ n4)
 
-          module _ (n5 : c ≡ 63 → ⊥) where
-            pub kind-plus : c ≡ 43 → (r : KindResult) → r ≡ refusedKind markFault → ReadsKind fold used s at r
-            kind-plus e r q = no-kind 5 r q (rw (here, ne-eqb _ _ n1, ne-eqb _ _ n2, ne-eqb _ _ n3, ne-eqb _ _ n4, ne-eqb _ _ n5, eq-eqb _ _ e))
+            pub kind-stray : (n ≡ 0 → ⊥) → (r : KindResult) → r ≡ refusedKind n → ReadsKind fold used s at r
+            kind-stray h r q = no-kind n r q (by-stray ∙ go (oneOf (ascii "?+*") c) (oneOf (ascii "]}") c) (λ z. h (en ∙ z)) ∙ ap bad (sym en))
+              where
+                go : (m b : Bool) → (cond m markFault (cond b byteFault 0) ≡ 0 → ⊥) → kindOfStray (good (byte c) 1) m b ≡ bad (cond m markFault (cond b byteFault 0))
+                go true b k = refl
+                go false true k = refl
+                go false false k = absurd (k refl)
 
-            module _ (n6 : c ≡ 43 → ⊥) where
-              pub kind-star : c ≡ 42 → (r : KindResult) → r ≡ refusedKind markFault → ReadsKind fold used s at r
-              kind-star e r q = no-kind 5 r q (rw (here, ne-eqb _ _ n1, ne-eqb _ _ n2, ne-eqb _ _ n3, ne-eqb _ _ n4, ne-eqb _ _ n5, ne-eqb _ _ n6, eq-eqb _ _ e))
-
-              module _ (n7 : c ≡ 42 → ⊥) where
-                pub kind-bracket : c ≡ 93 → (r : KindResult) → r ≡ refusedKind byteFault → ReadsKind fold used s at r
-                kind-bracket e r q =
-                    no-kind 6 r q (rw (here, ne-eqb _ _ n1, ne-eqb _ _ n2, ne-eqb _ _ n3, ne-eqb _ _ n4, ne-eqb _ _ n5, ne-eqb _ _ n6, ne-eqb _ _ n7, eq-eqb _ _ e))
-
-                module _ (n8 : c ≡ 93 → ⊥) where
-                  pub kind-brace : c ≡ 125 → (r : KindResult) → r ≡ refusedKind byteFault → ReadsKind fold used s at r
-                  kind-brace e r q =
-                      no-kind 6 r q
-                      (rw (here, ne-eqb _ _ n1, ne-eqb _ _ n2, ne-eqb _ _ n3, ne-eqb _ _ n4, ne-eqb _ _ n5, ne-eqb _ _ n6, ne-eqb _ _ n7, ne-eqb _ _ n8, eq-eqb _ _ e))
-
-                  pub kind-plain : (c ≡ 125 → ⊥) → (r : KindResult) → r ≡ plainOf c (at + 1) → ReadsKind fold used s at r
-                  kind-plain n9 r q =
-                      let f : kindAt fold (drop at s) ≡ good (byte c) 1 =
-                      rw (here, ne-eqb _ _ n1, ne-eqb _ _ n2, ne-eqb _ _ n3, ne-eqb _ _ n4, ne-eqb _ _ n5, ne-eqb _ _ n6, ne-eqb _ _ n7, ne-eqb _ _ n8, ne-eqb _ _ n9) in
-                      record { is = q ∙ sym (ap (kindAnswerBy fold used at) f); moves = rw q (omega arith, omega arith, tt) }
+            pub kind-plain : n ≡ 0 → (r : KindResult) → r ≡ plainOf c (at + 1) → ReadsKind fold used s at r
+            kind-plain z r q = record { is = q ∙ sym (ap (kindAnswerBy fold used at) (by-stray ∙ go (oneOf (ascii "?+*") c) (oneOf (ascii "]}") c) (sym en ∙ z))); moves = rw q (omega arith, omega arith, tt) }
+              where
+                go : (m b : Bool) → cond m markFault (cond b byteFault 0) ≡ 0 → kindOfStray (good (byte c) 1) m b ≡ good (byte c) 1
+                go true b k = absurd (omega arith)
+                go false true k = absurd (omega arith)
+                go false false k = refl
 
 -- ---- the mark
 

@@ -1,21 +1,15 @@
 -- What the readers of src/lib.rt find: the model's reading of the bytes from an index on, with the place after it instead of a
 -- count of bytes; and that a reader moves on and stays within the rule. Assumes nothing.
 use mathlib.Core.Path.{_≡_}
-use mathlib.Core.Bool.{Bool, false, cond}
+use mathlib.Core.Bool.{Bool, cond}
 use mathlib.Core.List.{List}
-use Prim.Native.Nat.{ℕ, suc, _+_, _-_, _≤_, _<_}
+use Prim.Native.Nat.{ℕ, suc, _+_, _≤_, _<_}
 use lib.ListN.{length, drop}
-use lib.Dec.{leb, ltb}
-use Rattle.model.specs.RefusalNumbers.{tooManyPositions}
+use lib.Dec.{leb}
+use Rattle.model.specs.Ascii.{ascii}
+use Rattle.model.specs.RefusalNumbers.{markFault, byteFault, tooManyPositions}
 use Rattle.model.specs.RuleText as Model
-use Rattle.model.specs.RuleText.{noEnd, anEnd, closes, misfit, item, faulty, items, bad, good, byte, any, class, gap, once, optional, repeatable, both, endAt, escapedEnd, itemAt, itemsFrom, boundAt, classOf, kindAt, oftenAt, oftenAfter, markBytes, positionLimit}
-use Rattle.rule_element.specs.declared.ClassByte.{ClassByte}
-use Rattle.rule_element.specs.declared.ClassByte.the-variants.{Byte, Wrong}
-use Rattle.rule_element.specs.declared.ClassItem.{ClassItem}
-use Rattle.rule_element.specs.declared.ClassItem.the-variants.{Wrong as NoItem, Range, Close}
-use Rattle.rule_element.specs.declared.Close.the-variants.{Wrong as NoClose, At}
-use Rattle.rule_element.specs.declared.Items.{Items}
-use Rattle.rule_element.specs.declared.Bound.{Bound}
+use Rattle.model.specs.RuleText.{bad, good, byte, any, class, gap, once, optional, repeatable, both, itemsFrom, classOf, oneOf, kindAt, oftenAt, oftenAfter, markBytes, positionLimit}
 use Rattle.rule_element.specs.declared.Kind.{Kind}
 use Rattle.rule_element.specs.declared.Kind.the-variants.{Byte as AByte, Any, Class, Gap}
 use Rattle.rule_element.specs.declared.KindAnswer.{KindAnswer}
@@ -27,59 +21,7 @@ use Rattle.rule_element.specs.declared.ElementAnswer.the-variants.{Got, 
 use Rattle.rule_element.specs.declared.Often.{Often}
 use Rattle.rule_element.specs.declared.Often.the-variants.{Once, Optional, Repeatable, Both}
 use Rattle.rule_element.specs.declared.ElementResult.{ElementResult}
-use Rattle.rule_element.specs.declared.Close.{Close as Closing}
 use Rattle.byte_set.specs.Sets.{addRanges, none, widen, turn}
-
--- ---- an end
-
-abbrev pub endOf : ℕ → Model.ReadEnd → ClassByte
-endOf at noEnd = Wrong
-endOf at (anEnd c n) = Byte c (at + n)
-
-abbrev pub EndMoves : List ℕ → ℕ → ClassByte → Type 0
-EndMoves s at Wrong = Unit {0}
-EndMoves s at (Byte c next) = (at < next) × (next ≤ length s)
-
-pub record ReadsEnd (s : List ℕ) (at : ℕ) (r : ClassByte) : Type 0 where
-  pub is : r ≡ endOf at (endAt (drop at s))
-  pub moves : EndMoves s at r
-
--- what stands after the `\` at a place
-pub record ReadsEscape (s : List ℕ) (at : ℕ) (r : ClassByte) : Type 0 where
-  pub is : r ≡ endOf at (escapedEnd (drop (suc at) s))
-  pub moves : EndMoves s at r
-
--- ---- an item of a class
-
-abbrev pub itemOf : ℕ → Model.Item → ClassItem
-itemOf at closes = Close (at + 1)
-itemOf at misfit = NoItem
-itemOf at (item r n) = Range (r .low) (r .high) (at + n)
-
-abbrev pub ItemMoves : List ℕ → ℕ → ClassItem → Type 0
-ItemMoves s at NoItem = Unit {0}
-ItemMoves s at (Close next) = (at < next) × (next ≤ length s)
-ItemMoves s at (Range lo hi next) = (at < next) × (next ≤ length s) × (lo ≤ hi)
-
-pub record ReadsItem (s : List ℕ) (at : ℕ) (r : ClassItem) : Type 0 where
-  pub is : r ≡ itemOf at (itemAt (drop at s))
-  pub moves : ItemMoves s at r
-
--- ---- the items of a class
-
--- the set with the ranges added, and the place after the `]`
-abbrev pub collect : List ℕ → Model.Items → Items
-collect w faulty = record { set = none; close = NoClose }
-collect w (items rs n) = record { set = addRanges w rs; close = At n }
-
-abbrev pub CloseMoves : List ℕ → ℕ → Closing → Type 0
-CloseMoves s at NoClose = Unit {0}
-CloseMoves s at (At next) = (at < next) × (next ≤ length s)
-
--- The model counts the bytes before the first item: here those from the rule's beginning on, so that its count is a place.
-pub record ReadsItems (s : List ℕ) (from : ℕ) (r : Items) : Type 0 where
-  pub is : r ≡ collect none (itemsFrom 0 from (drop from s))
-  pub moves : CloseMoves s from (r .close)
 
 -- ---- a kind
 
@@ -127,31 +69,19 @@ pub record ReadsBracket (fold : Bool) (used : ℕ) (s : List ℕ) (at : ℕ) (r 
 
 -- ---- a gap
 
-abbrev pub digitOf : ℕ → ℕ
-digitOf c = cond (ltb c 48) 10 (cond (ltb 57 c) 10 (c - 48))
-
-pub record ReadsDigit (c r : ℕ) : Type 0 where
-  pub is : r ≡ digitOf c
-  pub small : r ≤ 10
-
-abbrev pub boundOf : ℕ → Model.Bound → Bound
-boundOf at b = record { value = b .value; next = at + b .bytes }
-
-pub record ReadsBound (s : List ℕ) (at : ℕ) (r : Bound) : Type 0 where
-  pub is : r ≡ boundOf at (boundAt (drop at s))
-  pub low : r .value ≤ 99
-  pub from : at ≤ r .next
-  pub near : r .next ≤ at + 2
-
 -- the gap whose `{` stands at a place: neither the fold nor the positions before it change what it is
 pub record ReadsGap (s : List ℕ) (at : ℕ) (r : KindResult) : Type 0 where
-  pub is : r ≡ kindAnswerBy false 0 at (Model.gapAt (drop (suc at) s))
+  pub is : (fold : Bool) (used : ℕ) → r ≡ kindAnswerBy fold used at (Model.gapAt (drop (suc at) s))
   pub moves : KindAnswerMoves s at (r .answer)
 
 -- ---- any kind
 
 abbrev pub plainOf : (value next : ℕ) → KindResult
 plainOf c next = record { answer = Spelt (AByte c) next; set = none }
+
+-- the refusal of a byte that no element begins with, and 0 for any other
+abbrev pub strayOf : ℕ → ℕ
+strayOf c = cond (oneOf (ascii "?+*") c) markFault (cond (oneOf (ascii "]}") c) byteFault 0)
 
 pub record ReadsKind (fold : Bool) (used : ℕ) (s : List ℕ) (at : ℕ) (r : KindResult) : Type 0 where
   pub is : r ≡ kindAnswerBy fold used at (kindAt fold (drop at s))

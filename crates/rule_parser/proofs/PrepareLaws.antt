@@ -9,6 +9,7 @@ use lib.ListN.{length}
 use lib.Pow.{pow-mono, pow-pos}
 use borrow.Author.Tests.{eq-eqb, ne-eqb, lt-ltb, le-ltb}
 use Rattle.model.specs.Occurrence.{Position, shortest}
+use Rattle.model.specs.RefusalNumbers.{ruleEmpty, ruleLong, admitsEmpty}
 use Rattle.model.specs.RuleText as Model
 use Rattle.model.specs.RuleText.{foldFlag, ruleLimit, positionLimit, positions}
 use Rattle.model.specs.NumberedAnswers.{Parsed, accepted, elementsFrom, orEmpty}
@@ -49,14 +50,14 @@ module _ (flag : ℕ) (s : List ℕ) (r : Prepared) where
   refuses : (n p : ℕ) → r ≡ refusalOf n p → prepared flag s ≡ refusalOf n p → Prepares flag s r
   refuses n p q e = record { is = q ∙ sym e; few = rw q (omega arith) }
 
-  pub prepare-none : length s ≡ 0 → r ≡ refusalOf 1 0 → Prepares flag s r
+  pub prepare-none : length s ≡ 0 → r ≡ refusalOf ruleEmpty 0 → Prepares flag s r
   unfolding prepared
-  prepare-none e q = refuses 1 0 q (rw (eq-eqb _ _ e))
+  prepare-none e q = refuses ruleEmpty 0 q (rw (eq-eqb _ _ e))
 
   module _ (n : length s ≡ 0 → ⊥) where
-    pub prepare-long : ruleLimit < length s → r ≡ refusalOf 2 ruleLimit → Prepares flag s r
+    pub prepare-long : ruleLimit < length s → r ≡ refusalOf ruleLong ruleLimit → Prepares flag s r
     unfolding prepared
-    prepare-long l q = refuses 2 ruleLimit q (rw (ne-eqb _ _ n, lt-ltb _ _ l))
+    prepare-long l q = refuses ruleLong ruleLimit q (rw (ne-eqb _ _ n, lt-ltb _ _ l))
 
     module _ (l : length s ≤ ruleLimit) (f : Bool) (ef : f ≡ foldFlag flag) (x : Outcome) (rx : ReadsRule f s x) where
       by-elements : prepared flag s ≡ preparedBy f (orEmpty f s (elementsFrom positionLimit f 0 0 0 s))
@@ -100,9 +101,9 @@ module _ (flag : ℕ) (s : List ℕ) (r : Prepared) where
           by-positions : prepared flag s ≡ preparedBy f (orEmpty f s (accepted (got .0)))
           by-positions = by-elements ∙ ap (λ (y : Parsed). preparedBy f (orEmpty f s y)) (got .1)
 
-          pub prepare-bare : m ≡ 0 → r ≡ refusalOf 8 (length s) → Prepares flag s r
+          pub prepare-bare : m ≡ 0 → r ≡ refusalOf admitsEmpty (length s) → Prepares flag s r
           unfolding ps
-          prepare-bare z q = refuses 8 (length s) q (by-positions ∙ rw (eq-eqb _ _ (sym is-shortest ∙ z)))
+          prepare-bare z q = refuses admitsEmpty (length s) q (by-positions ∙ rw (eq-eqb _ _ (sym is-shortest ∙ z)))
 
           pub prepare-good : (m ≡ 0 → ⊥) → Prepares flag s (record { number = 0; place = 0; positions = t .positions; shortest = m; optional = t .optional; repeats = t .repeats })
           unfolding ps

@@ -5,7 +5,7 @@ use mathlib.Core.Bool.{Bool, true, false}
 use Prim.Native.Nat.{ℕ, zero, suc, pred, _+_, _*_, _^_, _≤_, _<_}
 use native.Mathlib.Omega.{arith}
 use native.Mathlib.Nat.{add-zero, add-suc, suc-add, mul-assoc, add-mul, zero-mul}
-use lib.ListN.{length, getD, drop, length-append}
+use lib.ListN.{length, getD, drop, length-append, drop-of-length-le}
 use lib.Seq.{drop-cons, drop-drop}
 use lib.Dec.{leb}
 use lib.Bits.{or-lt, or-shifted-r}
@@ -24,7 +24,6 @@ use Rattle.rule_element.specs.declared.Element.{Element}
 use Rattle.rule_element.specs.declared.ElementAnswer.the-variants.{Got, Refused as Refuses}
 use Rattle.rule_element.specs.declared.ElementResult.{ElementResult}
 use Rattle.rule_element.specs.Reading.{kindOf, setOf, oftenOf, sizeOf, bytesOf, KindFits, noElement, elementOf, readBy, ElementMoves, ReadsElement}
-use Rattle.rule_element.proofs.Ends.{past-end}
 use Rattle.rule_element.proofs.Elements.{size-same, bytes-same}
 use Rattle.rule_parser.specs.declared.RuleMasks.{RuleMasks}
 use Rattle.rule_parser.specs.declared.Outcome.{Outcome}
@@ -42,7 +41,7 @@ elements-skip fold (suc k) place used (c ∷ cs) = elements-skip fold k (suc pla
 
 module _ (fold : Bool) (used : ℕ) (s : List ℕ) (at : ℕ) where
   pub elements-end : length s ≤ at → elementsFrom positionLimit fold 0 at used (drop at s) ≡ accepted []
-  elements-end h = ap (elementsFrom positionLimit fold 0 at used) (past-end s at h)
+  elements-end h = ap (elementsFrom positionLimit fold 0 at used) (drop-of-length-le s h)
 
   module _ (h : at < length s) where
     here : drop at s ≡ getD s at 0 ∷ drop (suc at) s

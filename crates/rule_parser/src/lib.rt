@@ -186,10 +186,10 @@ pub fn prepare(rule: &[u8], fold: u32) -> Prepared
     ensures { λ r. ⌜ Prepares fold (now (rule .entry)) r ⌝ }
 {
     if rule.len() == 0 {
-        return refusal(1, 0);
+        return refusal(answers::RULE_EMPTY, 0);
     }
     if RULE_LIMIT < rule.len() {
-        return refusal(2, RULE_LIMIT as u32);
+        return refusal(answers::RULE_LONG, RULE_LIMIT as u32);
     }
     let f = folds(fold);
     let read = read_rule(rule, f);
@@ -201,7 +201,7 @@ pub fn prepare(rule: &[u8], fold: u32) -> Prepared
             let m = shift_and::shortest(position_mask(masks.positions), masks.optional);
             if m == 0 {
                 let end = rule.len() as u32;
-                return refusal(8, end);
+                return refusal(answers::ADMITS_EMPTY, end);
             }
             return Prepared {
                 number: 0,

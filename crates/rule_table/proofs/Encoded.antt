@@ -15,6 +15,7 @@ use Rattle.model.specs.Occurrence.{Position, oneIf, shortest}
 use Rattle.model.specs.RuleText as Model
 use Rattle.model.specs.RuleText.{foldFlag, positionLimit, kindSet, kindPositions, positions}
 use Rattle.model.specs.NumberedAnswers.{Parsed, refused, accepted, parse, positionsBy, rulePositions}
+use Rattle.shift_and.specs.Automaton.{wordAutomaton}
 use Rattle.shift_and.specs.Masks.{maskFrom, mask, admitsMask, optionalMask, repeatsMask, Encodes}
 use Rattle.shift_and.proofs.MaskLaws.{mask-append, mask-fits}
 use Rattle.rule_parser.specs.declared.Prepared.{Prepared}
@@ -142,15 +143,16 @@ module _ (flag : ℕ) (rule : List ℕ) (p : Prepared) (hp : Prepares flag rule 
   may-fill table l = record { fine = sym (ap (λ (y : Prepared). y .number) (hp .is)) ∙ z; count = ap (λ (y : Prepared). y .positions) (hp .is); few = hp .few; long = l }
 
   -- forwards: `prepare`'s masks and the table that `fill` makes
-  pub encodes-forwards : (table : List ℕ) → Filled flag rule false table → Encodes 64 ps (λ c. getD table c 0) (p .repeats) (p .optional)
-  encodes-forwards table t = record { fits = omega (arith, few); is-table = table-entry flag rule false table t; is-repeats = repeats-is; is-optional = optional-is }
+  pub encodes-forwards : (table : List ℕ) → Filled flag rule false table → Encodes (wordAutomaton table (p .repeats) (p .optional) (p .positions)) ps
+  encodes-forwards table t = record { fits = omega (arith, few); is-table = table-entry flag rule false table t; is-repeats = repeats-is; is-optional = optional-is; is-top = positions-are }
 
   -- reversed: the mirrored masks and the reversed table
   pub encodes-reversed : (table : List ℕ) → Filled flag rule true table → (R A : ℕ) → R ≡ mirror (p .repeats) (p .positions) → A ≡ mirror (p .optional) (p .positions)
-      → Encodes 64 (reverse ps) (λ c. getD table c 0) R A
+      → Encodes (wordAutomaton table R A (p .positions)) (reverse ps)
   encodes-reversed table t R A er ea = record {
     fits = rw (length-reverse ps) (omega (arith, few));
     is-table = table-entry flag rule true table t;
     is-repeats = er ∙ ap₂ mirror repeats-is positions-are ∙ mirror-mask (λ p. p .repeats) ps few;
     is-optional = ea ∙ ap₂ mirror optional-is positions-are ∙ mirror-mask (λ p. p .optional) ps few;
+    is-top = positions-are ∙ sym (length-reverse ps);
   }

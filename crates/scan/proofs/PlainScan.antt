@@ -2,14 +2,14 @@
 -- definitions that the contracts of `open`, `feed` and `finish` cite. Assumes nothing.
 use mathlib.Core.Path.{_≡_, refl, sym, ap, ap₂, subst, _∙_}
 use mathlib.Core.Bool.{Bool, true, false, cond}
-use mathlib.Core.List.{List, [], _∷_, _++_, append-nil, append-assoc}
-use Prim.Native.Nat.{ℕ, zero, suc, _+_, _≤_, _<_}
+use mathlib.Core.List.{List, [], _∷_, _++_, append-nil}
+use Prim.Native.Nat.{ℕ, zero, suc, _+_, _≤_}
 use native.Mathlib.Numerals.{add-one}
 use native.Mathlib.Omega.{arith}
 use lib.Dec.{eqb, ltb, nltb→le, ltb→lt}
-use lib.ListN.{length, take, getD, length-append}
-use lib.Seq.{getD-append-add, take-append-seam}
+use lib.ListN.{length, getD, length-append}
 use Rattle.model.specs.Occurrence.{Position, consIf, all, shortest}
+use Rattle.model.specs.RefusalNumbers.{impossible}
 use Rattle.model.specs.RuleText.{foldFlag, positionLimit, isByte, Element, positions, ruleLimit}
 use Rattle.model.specs.NumberedAnswers.{textLimit, Parsed, refused as turned-down, accepted, parse, positionsBy, rulePositions}
 use Rattle.model.specs.References.{formLimit, heldMost, heldTail, withoutTail}
@@ -20,26 +20,30 @@ use Rattle.model.proofs.Truth.{branch, and-left, and-right, and-intro}
 use Rattle.model.proofs.Decoding.{decode-length, held-length, tail-joined, held-cut}
 use Rattle.model.proofs.Scans as Scans
 use Rattle.model.proofs.Scans.{Scanner, opened, through, finishes, moved, scannerFrom}
-use Rattle.shift_and.specs.ForwardStep.{onByte, topBit, opening}
-use Rattle.shift_and.specs.Masks.{repeatsMask, optionalMask, Encodes}
+use Rattle.shift_and.specs.Automaton.{Automaton, stepOn, openingState, accepts, stateAfter, endsIn}
+use Rattle.shift_and.specs.Masks.{Encodes}
 use Rattle.shift_and.proofs.Bridge.{words-are-plain}
 use Rattle.rule_table.specs.Tables.{tableOf}
 use Rattle.rule_table.proofs.FillLaws.{long-entries}
 use Rattle.rule_table.proofs.Encoded.{table-entry}
-use Rattle.shift_and_step.specs.declared.Masks.{Masks}
-use Rattle.shift_and_step.specs.Stepping.{stepN, stateAfter, endsIn}
 use Rattle.scan_piece.specs.Feeding.{textOf, tailOf}
-use Rattle.scan_value.specs.Value.{scanLength, tableIn, positionsIn, masksIn, stateIn, finishedIn, rawIn, decodedIn, heldIn, possible, numberFor, slots, written}
-use Rattle.scan_value.proofs.Readback.{as-list, written-table, written-state, written-finished, written-raw, written-decoded, written-held, written-long, written-masks, written-possible}
+use Rattle.rule_part.specs.RulePart.{tableLength, automatonOfRule, stateOf}
+use Rattle.rule_part.proofs.RuleFields.{rule-possible, fields-automaton, fields-state}
+use Rattle.plan_part.specs.PlanPart.{byteMost, finishedOf, rawOf, decodedOf, heldBytesOf, planFields, planRefusal}
+use Rattle.plan_part.proofs.Readback.{fields-long as plan-fields-long, fields-finished, fields-raw, fields-decoded, fields-held, fields-possible}
+use Rattle.scan_value.specs.Value.{scanLength, ruleOf, planOf, positionsIn, automatonIn, stateIn, finishedIn, rawIn, decodedIn, heldIn, possible, numberFor}
+use Rattle.scan_value.proofs.Readback.{value-rule, value-plan, value-possible, written-automaton, written-state, written-finished, written-raw, written-decoded, written-held, written-long, written-possible}
 use Rattle.scan.specs.Calls.{numberOf, outOf, tailAfter, finishedAfter, endsOf, after, runFrom, Bytes, PiecesAreBytes}
-use Rattle.scan.specs.declared.Opened.{Opened}
-use Rattle.scan.specs.Opening.{openingOf, answerBy, leftBy, OpenIs}
+use Rattle.answers.specs.declared.Opened.{Opened}
+use Rattle.answers.specs.Answers.{refusingRule, acceptingRule}
+use Rattle.scan_open.specs.Opening.{masksFor, automatonFor, openingRule, openingOf, answerBy, leftBy, OpenIs}
+use Rattle.scan_open.proofs.Opens.{opening-long, value-length}
 
 -- ---- bytes, tails, sizes
 
-bytes-below : (xs : List ℕ) → Bytes xs → (i : ℕ) → getD xs i 0 < 256
+bytes-below : (xs : List ℕ) → Bytes xs → (i : ℕ) → getD xs i 0 ≤ byteMost
 bytes-below [] b i = omega arith
-bytes-below (x ∷ xs) b zero = ltb→lt x 256 (and-left (isByte x) (all isByte xs) b)
+bytes-below (x ∷ xs) b zero = let l = ltb→lt x 256 (and-left (isByte x) (all isByte xs) b) in omega arith
 bytes-below (x ∷ xs) b (suc i) = bytes-below xs (and-right (isByte x) (all isByte xs) b) i
 
 bytes-append : (xs ys : List ℕ) → Bytes xs → Bytes ys → Bytes (xs ++ ys)
@@ -73,29 +77,28 @@ flagNumber : Bool → ℕ
 flagNumber true = 1
 flagNumber false = 0
 
-module _ (t : List ℕ) (m : Masks) (some : 1 ≤ m .top) (few : m .top ≤ positionLimit) where
+module _ (A : Automaton) (some : 1 ≤ A .top) (few : A .top ≤ positionLimit) where
   step : ℕ → ℕ → ℕ
-  step d c = onByte 64 (λ c. getD t c 0) (m .repeats) (m .optional) true d c
+  step d c = stepOn A 1 d c
 
   Top : ℕ → Bool
-  Top d = topBit (m .top) d
+  Top d = accepts A d
 
-  runs : (out : List ℕ) (d : ℕ) → stateAfter t m d out ≡ Scans.run formLimit ℕ step Top d out
-  unfolding stateAfter stepN step
+  runs : (out : List ℕ) (d : ℕ) → stateAfter A d out ≡ Scans.run formLimit ℕ step Top d out
+  unfolding stateAfter step
   runs [] d = refl
   runs (c ∷ out) d = runs out (step d c)
 
-  ends-run : (out : List ℕ) (d at : ℕ) → endsIn t m d at out ≡ Scans.endsIn formLimit ℕ step Top d at out
-  unfolding endsIn stepN step Top
+  ends-run : (out : List ℕ) (d at : ℕ) → endsIn A d at out ≡ Scans.endsIn formLimit ℕ step Top d at out
+  unfolding endsIn step Top
   ends-run [] d at = refl
   ends-run (c ∷ out) d at =
-      ap₂ (λ (i : ℕ) (l : List ℕ). consIf (topBit (m .top) (step d c)) i l) (add-one at)
+      ap₂ (λ (i : ℕ) (l : List ℕ). consIf (accepts A (step d c)) i l) (add-one at)
       (ends-run out (step d c) (at + 1) ∙ ap (λ (i : ℕ). Scans.endsIn formLimit ℕ step Top (step d c) i out) (add-one at))
 
   record Mirrors (s : List ℕ) (k : Scanner ℕ) : Type 0 where
     long : length s ≡ scanLength
-    table : tableIn s ≡ t
-    masks : masksIn s ≡ m
+    automaton : automatonIn s ≡ A
     possible-is : possible s ≡ true
     state : stateIn s ≡ k .state
     finished : finishedIn s ≡ flagNumber (k .finished)
@@ -150,13 +153,13 @@ module _ (t : List ℕ) (m : Masks) (some : 1 ≤ m .top) (few : m .top ≤ posi
     mirror-moved : Bytes (pieceOf c) → rawIn s + length (pieceOf c) ≤ textLimit → Mirrors (after s c) (moved formLimit ℕ step Top k c)
     mirror-moved b limit =
         let out = through formLimit (k .held) c .out in
-        let D = stateAfter (tableIn s) (masksIn s) (stateIn s) (outOf s c) in
+        let D = stateAfter (automatonIn s) (stateIn s) (outOf s c) in
         let F = finishedAfter c in
         let R = rawIn s + length (pieceOf c) in
         let C = decodedIn s + length (outOf s c) in
         let H = tailAfter s c in
         let short = after-few s c in
-        let top : positionsIn s ≡ m .top = ap (λ (q : Masks). q .top) (x .masks) in
+        let top : positionsIn s ≡ A .top = ap (λ (q : Automaton). q .top) (x .automaton) in
         let by = after-bytes s (x .bytes) c b in
         let sum = after-sum s (x .sum) c in
         let o = out-is s (k .held) (x .held) c in
@@ -165,13 +168,12 @@ module _ (t : List ℕ) (m : Masks) (some : 1 ≤ m .top) (few : m .top ≤ posi
         let d = written-decoded s (x .long) D F R C H in
         record {
           long = written-long s (x .long) D F R C H;
-          table = written-table s (x .long) D F R C H ∙ x .table;
-          masks = written-masks s (x .long) D F R C H ∙ x .masks;
+          automaton = written-automaton s (x .long) D F R C H ∙ x .automaton;
           possible-is = written-possible s (x .long) D F R C H short (bytes-below H by) (after-tail s c) (omega (arith, top)) (omega (arith, top)) (finished-one c) limit sum;
           state =
               written-state s (x .long) D F R C H
-              ∙ ap₂ (λ (t : List ℕ) (m : Masks). stateAfter t m (stateIn s) (outOf s c)) (x .table) (x .masks)
-              ∙ ap₂ (λ (d : ℕ) (out : List ℕ). stateAfter t m d out) (x .state) o
+              ∙ ap (λ (a : Automaton). stateAfter a (stateIn s) (outOf s c)) (x .automaton)
+              ∙ ap₂ (λ (d : ℕ) (out : List ℕ). stateAfter A d out) (x .state) o
               ∙ runs out (k .state);
           finished = written-finished s (x .long) D F R C H ∙ finished-is c;
           raw = r ∙ ap (λ (i : ℕ). i + length (pieceOf c)) (x .raw);
@@ -183,15 +185,15 @@ module _ (t : List ℕ) (m : Masks) (some : 1 ≤ m .top) (few : m .top ≤ posi
 
     ends-are : endsOf s c ≡ Scans.endsIn formLimit ℕ step Top (k .state) (k .decoded) (through formLimit (k .held) c .out)
     ends-are =
-        ap₂ (λ (t : List ℕ) (m : Masks). endsIn t m (stateIn s) (decodedIn s) (outOf s c)) (x .table) (x .masks)
-        ∙ ap₂ (λ (d at : ℕ). endsIn t m d at (outOf s c)) (x .state) (x .decoded)
-        ∙ ap (endsIn t m (k .state) (k .decoded)) (out-is s (k .held) (x .held) c)
+        ap (λ (a : Automaton). endsIn a (stateIn s) (decodedIn s) (outOf s c)) (x .automaton)
+        ∙ ap₂ (λ (d at : ℕ). endsIn A d at (outOf s c)) (x .state) (x .decoded)
+        ∙ ap (endsIn A (k .state) (k .decoded)) (out-is s (k .held) (x .held) c)
         ∙ ends-run (through formLimit (k .held) c .out) (k .state) (k .decoded)
 
     numbers : numberOf s c ≡ refusal formLimit (k .finished) (k .taken) c
-    unfolding numberFor
+    unfolding numberFor planRefusal
     numbers =
-        ap (λ (b : Bool). cond b (refusalFor formLimit (ltb 0 (finishedIn s)) (rawIn s) (length (pieceOf c)) (listOf c)) 11) (x .possible-is)
+        ap (λ (b : Bool). cond b (refusalFor formLimit (ltb 0 (finishedIn s)) (rawIn s) (length (pieceOf c)) (listOf c)) impossible) (x .possible-is)
         ∙ ap₂ (λ (b : Bool) (n : ℕ). refusalFor formLimit b n (length (pieceOf c)) (listOf c)) (ap (ltb 0) (x .finished) ∙ flag-test (k .finished)) (x .raw)
 
     -- an accepted call is within the limit
@@ -234,70 +236,55 @@ module _ (t : List ℕ) (m : Masks) (some : 1 ≤ m .top) (few : m .top ≤ posi
 -- ---- from the opening on
 
 module _ (ps : List Position) where
-  abbrev masks : Masks
-  masks = record { repeats = repeatsMask ps; optional = optionalMask ps; top = length ps }
-
-  abbrev front : List ℕ
-  front = repeatsMask ps ∷ optionalMask ps ∷ length ps ∷ []
-
-  abbrev plan : List ℕ
-  plan = opening 64 (optionalMask ps) ∷ 0 ∷ 0 ∷ 0 ∷ 0 ∷ slots (heldMost formLimit) []
-
-  by-parts : openingOf ps ≡ (tableOf ps ++ front) ++ plan
+  opening-rule : ruleOf (openingOf ps) ≡ openingRule ps
   unfolding openingOf
-  by-parts = sym (append-assoc (tableOf ps) front plan)
+  opening-rule = value-rule (openingRule ps) (planFields 0 0 0 []) (opening-long ps) (plan-fields-long 0 0 0 [])
 
-  opening-long : length (openingOf ps) ≡ scanLength
-  unfolding slots
-  opening-long = ap length by-parts ∙ omega (arith, length-append (tableOf ps ++ front) plan, length-append (tableOf ps) front, long-entries ps 256 0)
-
-  opening-table : tableIn (openingOf ps) ≡ tableOf ps
+  opening-plan : planOf (openingOf ps) ≡ planFields 0 0 0 []
   unfolding openingOf
-  opening-table = ap (λ (n : ℕ). take n (openingOf ps)) (sym (long-entries ps 256 0)) ∙ take-append-seam (tableOf ps) (front ++ plan)
+  opening-plan = value-plan (openingRule ps) (planFields 0 0 0 []) (opening-long ps) (plan-fields-long 0 0 0 [])
 
-  opening-at : (k : ℕ) → getD (openingOf ps) (256 + k) 0 ≡ getD (front ++ plan) k 0
-  unfolding openingOf
-  opening-at k = ap (λ (n : ℕ). getD (openingOf ps) (n + k) 0) (sym (long-entries ps 256 0)) ∙ getD-append-add (tableOf ps) (front ++ plan) k 0
+  opening-automaton : automatonOfRule (openingRule ps) ≡ automatonFor ps
+  unfolding openingRule
+  opening-automaton = fields-automaton (tableOf ps) (masksFor ps) (openingState (automatonFor ps)) (long-entries ps tableLength 0)
 
-  -- written again, it is what it was
-  again : written (openingOf ps) (opening 64 (optionalMask ps)) 0 0 0 [] ≡ openingOf ps
-  again =
-      let n : length (tableOf ps ++ front) ≡ 259 = omega (arith, length-append (tableOf ps) front, long-entries ps 256 0) in
-      as-list (openingOf ps) opening-long (opening 64 (optionalMask ps)) 0 0 0 []
-      ∙ ap (λ (l : List ℕ). l ++ plan) (ap (take 259) by-parts ∙ ap (λ (n : ℕ). take n ((tableOf ps ++ front) ++ plan)) (sym n) ∙ take-append-seam (tableOf ps ++ front) plan)
-      ∙ sym by-parts
+  opening-state : stateOf (openingRule ps) ≡ openingState (automatonFor ps)
+  unfolding openingRule
+  opening-state = fields-state (tableOf ps) (masksFor ps) (openingState (automatonFor ps)) (long-entries ps tableLength 0)
 
   module _ (some : 1 ≤ length ps) (few : length ps ≤ positionLimit) where
-    opening-mirrors : Mirrors (tableOf ps) masks some few (openingOf ps) (opened (opening 64 (optionalMask ps)))
+    opening-possible : possible (openingOf ps) ≡ true
+    unfolding openingOf
+    opening-possible =
+        let top = ap (λ (a : Automaton). a .top) opening-automaton in
+        value-possible (openingRule ps) (planFields 0 0 0 []) (opening-long ps) (plan-fields-long 0 0 0 [])
+        (rule-possible (openingRule ps) (omega arith) (omega arith))
+        (fields-possible 0 0 0 [] (omega arith) (λ i. omega arith) refl (omega arith) (omega arith) (omega arith))
+
+    opening-mirrors : Mirrors (automatonFor ps) some few (openingOf ps) (opened (openingState (automatonFor ps)))
     unfolding flagNumber
     opening-mirrors =
-        let s = openingOf ps in
-        let D = opening 64 (optionalMask ps) in
-        let l = opening-long in
-        let top : positionsIn s ≡ length ps = opening-at 2 in
-        let none : heldIn s ≡ [] = ap heldIn (sym again) ∙ written-held s l D 0 0 0 [] (omega arith) in
-        let raw : rawIn s ≡ 0 = ap rawIn (sym again) ∙ written-raw s l D 0 0 0 [] in
-        let decoded : decodedIn s ≡ 0 = ap decodedIn (sym again) ∙ written-decoded s l D 0 0 0 [] in
+        let none : heldIn (openingOf ps) ≡ [] = ap heldBytesOf opening-plan ∙ fields-held 0 0 0 [] (omega arith) in
+        let decoded : decodedIn (openingOf ps) ≡ 0 = ap decodedOf opening-plan ∙ fields-decoded 0 0 0 [] in
         record {
-          long = l;
-          table = opening-table;
-          masks = rw (opening-at 0, opening-at 1, opening-at 2);
-          possible-is = ap possible (sym again) ∙ written-possible s l D 0 0 0 [] (omega arith) (λ i. omega arith) refl (omega (arith, top)) (omega (arith, top)) (omega arith) (omega arith) (omega arith);
-          state = ap stateIn (sym again) ∙ written-state s l D 0 0 0 [];
-          finished = ap finishedIn (sym again) ∙ written-finished s l D 0 0 0 [];
-          raw = raw;
+          long = value-length ps;
+          automaton = ap automatonOfRule opening-rule ∙ opening-automaton;
+          possible-is = opening-possible;
+          state = ap stateOf opening-rule ∙ opening-state;
+          finished = ap finishedOf opening-plan ∙ fields-finished 0 0 0 [];
+          raw = ap rawOf opening-plan ∙ fields-raw 0 0 0 [];
           decoded = decoded;
           held = none;
           bytes = subst Bytes (sym none) tt;
           sum = omega (arith, ap length none);
         }
 
-    from-opening : Encodes 64 ps (λ c. getD (tableOf ps) c 0) (repeatsMask ps) (optionalMask ps) → (cs : List Call) → PiecesAreBytes cs
+    from-opening : Encodes (automatonFor ps) ps → (cs : List Call) → PiecesAreBytes cs
         → runFrom (openingOf ps) cs ≡ scanFrom formLimit ps nothingKept cs
     unfolding step Top
     from-opening e cs b =
-        runs-agree (tableOf ps) masks some few cs (openingOf ps) (opened (opening 64 (optionalMask ps))) b opening-mirrors
-        ∙ words-are-plain 64 ps (λ c. getD (tableOf ps) c 0) (repeatsMask ps) (optionalMask ps) e formLimit cs
+        runs-agree (automatonFor ps) some few cs (openingOf ps) (opened (openingState (automatonFor ps))) b opening-mirrors
+        ∙ words-are-plain (automatonFor ps) ps e formLimit cs
 
 -- What an opening with number 0 was of, and what it left.
 pub record OpenedWith (flag : ℕ) (rule s′ : List ℕ) : Type 0 where
@@ -307,7 +294,7 @@ pub record OpenedWith (flag : ℕ) (rule s′ : List ℕ) : Type 0 where
 
 module _ (flag : ℕ) (rule s : List ℕ) (r : Opened) (s′ : List ℕ) where
   by-length : (b : Bool) (es : List Element) → parse (foldFlag flag) rule ≡ accepted es
-      → r ≡ cond b (record { number = 0; place = 0; positions = length (positions (foldFlag flag) es); shortest = shortest (positions (foldFlag flag) es) }) (record { number = 11; place = 0; positions = 0; shortest = 0 })
+      → r ≡ cond b (acceptingRule (length (positions (foldFlag flag) es)) (shortest (positions (foldFlag flag) es))) (refusingRule impossible 0)
       → s′ ≡ cond b (openingOf (positions (foldFlag flag) es)) s → r .number ≡ 0 → OpenedWith flag rule s′
   by-length true es e a l z = record { elements = es; parses = e; leaves = l }
   by-length false es e a l z = absurd (omega (arith, sym (ap (λ (o : Opened). o .number) a) ∙ z))
@@ -332,9 +319,10 @@ module _ (flag : ℕ) (rule : List ℕ) (bytes : Bytes rule) (cs : List Call) (p
       ∙ from-opening ps (ok .some) (ok .few)
       (record {
         fits = omega (arith, ok .few);
-        is-table = table-entry flag rule false (tableOf ps) (record { long = long-entries ps 256 0; is = refl });
+        is-table = table-entry flag rule false (tableOf ps) (record { long = long-entries ps tableLength 0; is = refl });
         is-repeats = refl;
         is-optional = refl;
+        is-top = refl;
       }) cs pieces
 
   -- "every answer, refusal or ends": from what an accepted opening left, each call handed what the one before it left.

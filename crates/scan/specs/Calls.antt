@@ -3,7 +3,7 @@
 use mathlib.Core.Path.{_≡_}
 use mathlib.Core.Bool.{cond}
 use mathlib.Core.List.{List, [], _∷_, _++_}
-use Prim.Native.Nat.{ℕ, zero, suc, _+_}
+use Prim.Native.Nat.{ℕ, zero, suc, _+_, _≤_}
 use lib.Dec.{T, eqb}
 use lib.ListN.{length}
 use Rattle.model.specs.Occurrence.{all}
@@ -11,12 +11,13 @@ use Rattle.model.specs.RuleText.{isByte}
 use Rattle.model.specs.NumberedAnswers.{overwrite}
 use Rattle.model.specs.PlainScan as Plain
 use Rattle.model.specs.PlainScan.{Call, feed, finish, pieceOf, listOf}
-use Rattle.decoder.specs.declared.Answer.{Answer}
-use Rattle.decoder.specs.Decoder.{refusing, counting}
-use Rattle.shift_and_step.specs.Stepping.{stateAfter, endsIn}
+use Rattle.answers.specs.declared.Answer.{Answer}
+use Rattle.answers.specs.Answers.{refusing, counting}
+use Rattle.shift_and.specs.Automaton.{stateAfter, endsIn}
 use Rattle.scan_piece.specs.declared.Progress.{Progress}
-use Rattle.scan_piece.specs.Feeding.{textOf, tailOf}
-use Rattle.scan_value.specs.Value.{tableIn, masksIn, stateIn, rawIn, decodedIn, heldIn, written, numberFor}
+use Rattle.scan_piece.specs.declared.Fed.{Fed}
+use Rattle.scan_piece.specs.Feeding.{textOf, tailOf, Stepped, Holds}
+use Rattle.scan_value.specs.Value.{automatonIn, stateIn, rawIn, decodedIn, heldCountIn, heldIn, written, numberFor}
 
 -- ---- one call on scan value s
 
@@ -44,24 +45,35 @@ finishedAfter (finish n) = 1
 
 -- The ends that it reports: document 01's step on each byte let out.
 abbrev pub endsOf : (s : List ℕ) → Call → List ℕ
-endsOf s c = endsIn (tableIn s) (masksIn s) (stateIn s) (decodedIn s) (outOf s c)
+endsOf s c = endsIn (automatonIn s) (stateIn s) (decodedIn s) (outOf s c)
 
 -- The scan value that it leaves.
 abbrev pub after : (s : List ℕ) → Call → List ℕ
 after s c =
-    written s (stateAfter (tableIn s) (masksIn s) (stateIn s) (outOf s c)) (finishedAfter c) (rawIn s + length (pieceOf c)) (decodedIn s + length (outOf s c)) (tailAfter s c)
+    written s (stateAfter (automatonIn s) (stateIn s) (outOf s c)) (finishedAfter c) (rawIn s + length (pieceOf c)) (decodedIn s + length (outOf s c)) (tailAfter s c)
 
 -- ---- contracts
 
+-- `step_piece`: a feed's step over what it lets out, from the value's state, and what it holds back
+pub record PieceStepped (s piece ends : List ℕ) (r : Fed) (ends′ : List ℕ) : Type 0 where
+  pub steps : Stepped (automatonIn s) (startOf s) (textOf (heldIn s ++ piece)) ends (r .state) ends′
+  pub held : Holds (r .held) (tailOf (heldIn s ++ piece))
+  pub few : length (textOf (heldIn s ++ piece)) + r .held .len ≤ heldCountIn s + length piece
+
+-- `step_tail`: a finish's
+pub record TailStepped (s ends : List ℕ) (r : Progress) (ends′ : List ℕ) : Type 0 where
+  pub steps : Stepped (automatonIn s) (startOf s) (heldIn s) ends r ends′
+  pub few : length (heldIn s) ≤ heldCountIn s
+
 -- An accepted call: the answer, the scan value and the list at exit.
 pub record Taken (s : List ℕ) (c : Call) (ends : List ℕ) (r : Answer) (s′ ends′ : List ℕ) : Type 0 where
-  pub answers : r ≡ counting (length (endsOf s c))
+  pub answers : r ≡ counting (length (endsOf s c)) 0
   pub leaves : s′ ≡ after s c
   pub lists : ends′ ≡ overwrite ends (endsOf s c)
 
 -- Any call: "after a refusal everything lent is as before".
 pub record CallIs (s : List ℕ) (c : Call) (ends : List ℕ) (r : Answer) (s′ ends′ : List ℕ) : Type 0 where
-  pub answers : r ≡ cond (eqb (numberOf s c) 0) (counting (length (endsOf s c))) (refusing (numberOf s c))
+  pub answers : r ≡ cond (eqb (numberOf s c) 0) (counting (length (endsOf s c)) 0) (refusing (numberOf s c) 0)
   pub leaves : s′ ≡ cond (eqb (numberOf s c) 0) (after s c) s
   pub lists : ends′ ≡ cond (eqb (numberOf s c) 0) (overwrite ends (endsOf s c)) ends
 

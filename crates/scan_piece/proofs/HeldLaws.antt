@@ -1,19 +1,19 @@
 -- Held bytes and the head of a piece, and then the rest of it. On plain values. Assumes nothing.
 use mathlib.Core.Path.{_≡_, sym, ap, subst, _∙_}
-use mathlib.Core.List.{List, _++_}
+use mathlib.Core.List.{List, [], _++_}
 use Prim.Native.Nat.{ℕ, _+_, _-_, _≤_, _<_}
 use native.Mathlib.Omega.{arith}
 use lib.ListN.{length, take, drop, length-append, length-drop, length-take}
 use lib.Seq.{take-all}
 use borrow.Rule.Slice.PartMut.{midOf}
-use Rattle.model.specs.References.{formLimit, heldMost, utf8}
-use Rattle.model.proofs.Decoding.{held-length}
+use Rattle.model.specs.References.{formLimit, heldMost, utf8, joined, outTokens}
+use Rattle.model.proofs.Decoding.{joined-run, held-length}
 use Rattle.reference_reader.specs.Reader.{codeLimit}
 use Rattle.piece_decoder.specs.declared.held.Held.{Held}
 use Rattle.piece_decoder.specs.declared.held.HeldOutcome.the-variants.{Completed, Literal, Pending}
 use Rattle.piece_decoder.specs.declared.held.Resolved.{Resolved}
-use Rattle.piece_decoder.specs.Held.{heldOf, TopUpIs, CompletedIs, LiteralIs, PendingIs, ResolvedIs}
-use Rattle.shift_and_step.specs.declared.Masks.{Masks}
+use Rattle.piece_decoder.specs.Held.{heldOf, NothingHeld, TopUpIs, CompletedIs, LiteralIs, PendingIs, ResolvedIs}
+use Rattle.shift_and.specs.Automaton.{Automaton}
 use Rattle.scan_piece.specs.declared.Progress.{Progress}
 use Rattle.scan_piece.specs.declared.Rest.{Rest}
 use Rattle.scan_piece.specs.declared.Fed.{Fed}
@@ -30,17 +30,17 @@ tail-few xs = held-length formLimit xs
 pub held-few : (h : Held) → length (take (h .len) (h .bytes)) ≤ h .len
 held-few h = omega (arith, length-take (h .len) (h .bytes))
 
-module _ (t : List ℕ) (m : Masks) (g : Progress) (piece : List ℕ) (from : ℕ) (ends : List ℕ) where
-  pub rest-fed : (r : Rest) (ends′ : List ℕ) → RestIs t m g piece from ends r ends′
-      → (blank : List ℕ) (j : Held) → TopUpIs (record { bytes = blank; len = 0 }) (midOf (r .kept) (length piece - r .kept) piece) j
-      → RestFed t m g piece from ends (record { state = r .state; held = j }) ends′
-  rest-fed r ends′ w blank j y =
+module _ (A : Automaton) (g : Progress) (piece : List ℕ) (from : ℕ) (ends : List ℕ) where
+  pub rest-fed : (r : Rest) (ends′ : List ℕ) → RestIs A g piece from ends r ends′
+      → (none : Held) → NothingHeld none → (j : Held) → TopUpIs none (midOf (r .kept) (length piece - r .kept) piece) j
+      → RestFed A g piece from ends (record { state = r .state; held = j }) ends′
+  rest-fed r ends′ w none z j y =
       let fits = w .fits in
       let rest : midOf (r .kept) (length piece - r .kept) piece ≡ drop (r .kept) piece = take-all (length piece - r .kept) (drop (r .kept) piece) (omega (arith, length-drop (r .kept) piece)) in
       let tl : tailOf (drop from piece) ≡ drop (r .kept) piece = w .holds in
       let n = tail-few (drop from piece) in
       let e : heldOf j ≡ tailOf (drop from piece) =
-      y .is ∙ ap (take formLimit) rest ∙ take-all formLimit (drop (r .kept) piece) (omega (arith, ap length tl)) ∙ sym tl in
+      y .is ∙ ap (λ (l : List ℕ). take formLimit (l ++ midOf (r .kept) (length piece - r .kept) piece)) (z .is) ∙ ap (take formLimit) rest ∙ take-all formLimit (drop (r .kept) piece) (omega (arith, ap length tl)) ∙ sym tl in
       let k : j .len ≡ length (tailOf (drop from piece)) = y .size ∙ ap length e in
       let a = w .few in
       record {
@@ -65,51 +65,54 @@ module _ (h : Held) (piece : List ℕ) (x : Resolved) (cr : ResolvedIs h piece x
     pub code-fits : (code < codeLimit) × (length (utf8 code) ≤ h .len + taken) × (taken ≤ length piece)
     code-fits = let c = completed in (c .small, (let f = c .few in omega (arith, h-long)), c .fits)
 
-module _ (t : List ℕ) (m : Masks) (g : Progress) (h : Held) (piece ends : List ℕ) (x : Resolved) (cr : ResolvedIs h piece x) where
+module _ (A : Automaton) (g : Progress) (h : Held) (piece ends : List ℕ) (x : Resolved) (cr : ResolvedIs h piece x) where
   module _ (code taken : ℕ) (e : x .case ≡ Completed code taken) where
-    pub fed-completed : (s : Progress) (ends₁ : List ℕ) → Stepped t m g (utf8 code) ends s ends₁ → (r : Fed) (ends′ : List ℕ) → RestFed t m s piece taken ends₁ r ends′ → FedIs t m g h piece ends r ends′
+    pub fed-completed : (s : Progress) (ends₁ : List ℕ) → Stepped A g (utf8 code) ends s ends₁ → (r : Fed) (ends′ : List ℕ) → RestFed A s piece taken ends₁ r ends′ → FedIs A g h piece ends r ends′
     unfolding textOf tailOf
     fed-completed s ends₁ a r ends′ w =
         let c = completed h piece x cr code taken e in
         let f = c .few in
+        let o : textOf (heldOf h ++ piece) ≡ utf8 code ++ textOf (drop taken piece) = ap joined (c .lets-out) in
         let q = w .few in
         record {
           steps =
-              subst (λ (l : List ℕ). Stepped t m g l ends (r .state) ends′) (sym (c .lets-out))
-              (stepped-append t m g (utf8 code) (textOf (drop taken piece)) ends s ends₁ (r .state) ends′ a (w .steps));
+              subst (λ (l : List ℕ). Stepped A g l ends (r .state) ends′) (sym o)
+              (stepped-append A g (utf8 code) (textOf (drop taken piece)) ends s ends₁ (r .state) ends′ a (w .steps));
           held = subst (Holds (r .held)) (sym (c .holds)) (w .held);
-          few = omega (arith, ap length (c .lets-out), length-append (utf8 code) (textOf (drop taken piece)), h-long h piece x cr);
+          few = omega (arith, ap length o, length-append (utf8 code) (textOf (drop taken piece)), h-long h piece x cr);
         }
 
   module _ (e : x .case ≡ Literal) where
     passed : LiteralIs (heldOf h) piece
     passed = rw e at (cr .is)
 
-    pub fed-literal : (s : Progress) (ends₁ : List ℕ) → Stepped t m g (heldOf h) ends s ends₁ → (r : Fed) (ends′ : List ℕ) → RestFed t m s piece 0 ends₁ r ends′ → FedIs t m g h piece ends r ends′
+    pub fed-literal : (s : Progress) (ends₁ : List ℕ) → Stepped A g (heldOf h) ends s ends₁ → (r : Fed) (ends′ : List ℕ) → RestFed A s piece 0 ends₁ r ends′ → FedIs A g h piece ends r ends′
     unfolding textOf tailOf
     fed-literal s ends₁ a r ends′ w =
         let c = passed in
+        let o : textOf (heldOf h ++ piece) ≡ heldOf h ++ textOf piece = ap joined (c .lets-out) ∙ joined-run (heldOf h) (outTokens formLimit piece) in
         let q = w .few in
         record {
           steps =
-              subst (λ (l : List ℕ). Stepped t m g l ends (r .state) ends′) (sym (c .lets-out))
-              (stepped-append t m g (heldOf h) (textOf piece) ends s ends₁ (r .state) ends′ a (w .steps));
+              subst (λ (l : List ℕ). Stepped A g l ends (r .state) ends′) (sym o)
+              (stepped-append A g (heldOf h) (textOf piece) ends s ends₁ (r .state) ends′ a (w .steps));
           held = subst (Holds (r .held)) (sym (c .holds)) (w .held);
-          few = omega (arith, ap length (c .lets-out), length-append (heldOf h) (textOf piece), h-long h piece x cr);
+          few = omega (arith, ap length o, length-append (heldOf h) (textOf piece), h-long h piece x cr);
         }
 
   module _ (e : x .case ≡ Pending) where
     growing : PendingIs (heldOf h) piece (x .joined)
     growing = rw e at (cr .is)
 
-    pub fed-pending : FedIs t m g h piece ends (record { state = g; held = x .joined }) ends
+    pub fed-pending : FedIs A g h piece ends (record { state = g; held = x .joined }) ends
     unfolding textOf tailOf
     fed-pending =
         let c = growing in
+        let o : textOf (heldOf h ++ piece) ≡ [] = ap joined (c .lets-out) in
         let j = cr .joins in
         let z : x .joined .len ≡ length (heldOf h ++ piece) = j .size ∙ ap length (c .is) in
         record {
-          steps = subst (λ (l : List ℕ). Stepped t m g l ends g ends) (sym (c .lets-out)) (stepped-none t m g ends);
+          steps = subst (λ (l : List ℕ). Stepped A g l ends g ends) (sym o) (stepped-none A g ends);
           held = record { is = c .is ∙ sym (c .holds); size = z ∙ ap length (sym (c .holds)); few = c .fine .few; long = j .long };
-          few = omega (arith, ap length (c .lets-out), length-append (heldOf h) piece, h-long h piece x cr);
+          few = omega (arith, ap length o, length-append (heldOf h) piece, h-long h piece x cr);
         }

@@ -1,16 +1,14 @@
 // A piece of a plan, after held bytes: what it lets out is decoded and stepped over, and what it holds
 // back is kept. At any table and masks.
-ghost use mathlib.Core.Path.{_≡_};
-ghost use mathlib.Core.Bool.{true};
 ghost use Prim.Native.Nat.{_+_, _<_, _≤_, _^_};
 ghost use lib.ListN.{length};
-ghost use Rattle.shift_and_step.specs.Stepping.{TableFits};
+ghost use Rattle.shift_and_step.specs.Stepping.{automatonOf, TableFits};
 ghost use Rattle.model.specs.References.{utf8};
 ghost use Rattle.prefilter.specs.Soundness.{PrefilterSound};
 ghost use Rattle.reference_reader.specs.Reader.{codeLimit};
 ghost use Rattle.piece_decoder.specs.Held.{HeldFine};
-ghost use Rattle.scan_piece.specs.Feeding.{Stepped, PartEnd, NextPartIs, RestIs, RestFed, FedIs};
-use limits::FORM_LIMIT;
+ghost use Rattle.scan_piece.specs.Feeding.{Stepped, NextPartIs, RestIs, RestFed, FedIs};
+use piece_decoder::CHUNK;
 use piece_decoder::held::Held;
 use piece_decoder::held::HeldOutcome;
 use prefilter::Prefilter;
@@ -36,7 +34,7 @@ fn step_text(
     requires { ⌜ g .count + length (now text) ≤ length (now ends) ⌝ }
     requires { ⌜ g .at + length (now text) < 2 ^ 32 ⌝ }
     requires { ⌜ PrefilterSound (now table) (masks .repeats) (masks .optional) (masks .top) filter ⌝ }
-    ensures { λ r. ⌜ Stepped (now (table .entry)) masks g (now (text .entry)) (now (ends .entry)) r (now (ends .exit)) ⌝ }
+    ensures { λ r. ⌜ Stepped (automatonOf (now (table .entry)) masks) g (now (text .entry)) (now (ends .entry)) r (now (ends .exit)) ⌝ }
 {
     let count = g.count;
     let r = shift_and_scan::scan_text(table, masks, filter, g.d, g.at, text, &mut ends[count..]);
@@ -60,7 +58,7 @@ pub fn step_held(
     requires { ⌜ TableFits (now table) masks ⌝ }
     requires { ⌜ g .count + length (now text) ≤ length (now ends) ⌝ }
     requires { ⌜ g .at + length (now text) < 2 ^ 32 ⌝ }
-    ensures { λ r. ⌜ Stepped (now (table .entry)) masks g (now (text .entry)) (now (ends .entry)) r (now (ends .exit)) ⌝ }
+    ensures { λ r. ⌜ Stepped (automatonOf (now (table .entry)) masks) g (now (text .entry)) (now (ends .entry)) r (now (ends .exit)) ⌝ }
 {
     let filter = prefilter::choose(table, masks.repeats, masks.optional, masks.top, text.len());
     step_text(table, masks, filter, g, text, ends)
@@ -80,7 +78,7 @@ fn step_code_point(
     requires { ⌜ g .count + length (utf8 code) ≤ length (now ends) ⌝ }
     requires { ⌜ g .at + length (utf8 code) < 2 ^ 32 ⌝ }
     requires { ⌜ PrefilterSound (now table) (masks .repeats) (masks .optional) (masks .top) filter ⌝ }
-    ensures { λ r. ⌜ Stepped (now (table .entry)) masks g (utf8 code) (now (ends .entry)) r (now (ends .exit)) ⌝ }
+    ensures { λ r. ⌜ Stepped (automatonOf (now (table .entry)) masks) g (utf8 code) (now (ends .entry)) r (now (ends .exit)) ⌝ }
 {
     let mut t = [0u8; 4];
     let n = reference_reader::put_utf8(&mut t, code);
@@ -95,38 +93,8 @@ pub struct Next {
     pub held: bool,
 }
 
-// From so many literal bytes on they are stepped over where they stand: a copy would cost more than it saves.
-const IN_PLACE_FROM: usize = 1024;
-
-// Whether those from i to e are: they are so many, or all the rest. Only speed depends on the choice.
-fn in_place(i: usize, e: usize, len: usize) -> bool
-    requires { ⌜ i < len ⌝ }
-    requires { ⌜ i ≤ e ⌝ }
-    ensures { λ r. ⌜ (r ≡ true → i < e) ⌝ }
-{
-    if e == len {
-        return true;
-    }
-    IN_PLACE_FROM <= e - i
-}
-
-// As many bytes as a chunk takes: a part of a piece with references is decoded there first, and stepped over
-// in one scan, since many short scans are slow.
-const CHUNK: usize = 4096;
-
-// The end of the part that begins at i.
-fn part_end(i: usize, len: usize) -> usize
-    requires { ⌜ i < len ⌝ }
-    ensures { λ r. ⌜ PartEnd i len r ⌝ }
-{
-    if len - i <= CHUNK {
-        return len;
-    }
-    i + CHUNK
-}
-
-// A part of a piece, with nothing held, through a chunk. What the part holds back begins the next one,
-// and is held back if the piece ends there.
+// A chunk of a piece, with nothing held, through a room. Apart, so that the room is cleared only where it
+// is used.
 fn step_chunk(
     table: &[u64],
     masks: Masks,
@@ -141,30 +109,20 @@ fn step_chunk(
     requires { ⌜ g .count + length (now piece) ≤ length (now ends) + i ⌝ }
     requires { ⌜ g .at + length (now piece) < 2 ^ 32 + i ⌝ }
     requires { ⌜ PrefilterSound (now table) (masks .repeats) (masks .optional) (masks .top) filter ⌝ }
-    ensures { λ r. ⌜ NextPartIs (now (table .entry)) masks g (now (piece .entry)) i (now (ends .entry)) r (now (ends .exit)) ⌝ }
+    ensures { λ r. ⌜ NextPartIs (automatonOf (now (table .entry)) masks) g (now (piece .entry)) i (now (ends .entry)) r (now (ends .exit)) ⌝ }
 {
-    let k = part_end(i, piece.len());
-    let mut chunk = [0u8; CHUNK];
-    let f = piece_decoder::decode_chunk(&piece[i..k], &mut chunk);
+    let mut room = [0u8; CHUNK];
+    let f = piece_decoder::decode_chunk(piece, i, &mut room);
     let n = f.written;
-    let s = step_text(table, masks, filter, g, &chunk[0..n], ends);
-    let after = i + f.kept;
-    if k < piece.len() {
-        return Next {
-            state: s,
-            read: after,
-            held: false,
-        };
-    }
+    let s = step_text(table, masks, filter, g, &room[0..n], ends);
     Next {
         state: s,
-        read: after,
-        held: after < k,
+        read: f.read,
+        held: f.held,
     }
 }
 
-// Some bytes of a piece, with nothing held: literal bytes where they stand, or else a part through a
-// chunk.
+// A chunk of a piece, with nothing held: literal bytes where they stand, or else through a room.
 fn next_part(
     table: &[u64],
     masks: Masks,
@@ -179,10 +137,10 @@ fn next_part(
     requires { ⌜ g .count + length (now piece) ≤ length (now ends) + i ⌝ }
     requires { ⌜ g .at + length (now piece) < 2 ^ 32 + i ⌝ }
     requires { ⌜ PrefilterSound (now table) (masks .repeats) (masks .optional) (masks .top) filter ⌝ }
-    ensures { λ r. ⌜ NextPartIs (now (table .entry)) masks g (now (piece .entry)) i (now (ends .entry)) r (now (ends .exit)) ⌝ }
+    ensures { λ r. ⌜ NextPartIs (automatonOf (now (table .entry)) masks) g (now (piece .entry)) i (now (ends .entry)) r (now (ends .exit)) ⌝ }
 {
-    let e = reference_search::literal_end(piece, i);
-    if in_place(i, e, piece.len()) {
+    let e = piece_decoder::literal_chunk(piece, i);
+    if i < e {
         let s = step_text(table, masks, filter, g, &piece[i..e], ends);
         return Next {
             state: s,
@@ -214,7 +172,7 @@ fn scan_rest(
     requires { ⌜ g .count + length (now piece) ≤ length (now ends) + from ⌝ }
     requires { ⌜ g .at + length (now piece) < 2 ^ 32 + from ⌝ }
     requires { ⌜ PrefilterSound (now table) (masks .repeats) (masks .optional) (masks .top) filter ⌝ }
-    ensures { λ r. ⌜ RestIs (now (table .entry)) masks g (now (piece .entry)) from (now (ends .entry)) r (now (ends .exit)) ⌝ }
+    ensures { λ r. ⌜ RestIs (automatonOf (now (table .entry)) masks) g (now (piece .entry)) from (now (ends .entry)) r (now (ends .exit)) ⌝ }
 {
     let mut s = g;
     let mut i = from;
@@ -254,15 +212,12 @@ fn feed_rest(
     requires { ⌜ g .count + length (now piece) ≤ length (now ends) + from ⌝ }
     requires { ⌜ g .at + length (now piece) < 2 ^ 32 + from ⌝ }
     requires { ⌜ PrefilterSound (now table) (masks .repeats) (masks .optional) (masks .top) filter ⌝ }
-    ensures { λ r. ⌜ RestFed (now (table .entry)) masks g (now (piece .entry)) from (now (ends .entry)) r (now (ends .exit)) ⌝ }
+    ensures { λ r. ⌜ RestFed (automatonOf (now (table .entry)) masks) g (now (piece .entry)) from (now (ends .entry)) r (now (ends .exit)) ⌝ }
 {
     let r = scan_rest(table, masks, filter, g, piece, from, ends);
     let u = r.state;
     let kept = r.kept;
-    let none = Held {
-        bytes: [0u8; FORM_LIMIT],
-        len: 0,
-    };
+    let none = piece_decoder::held::nothing_held();
     let j = piece_decoder::held::top_up(none, &piece[kept..]);
     Fed { state: u, held: j }
 }
@@ -281,7 +236,7 @@ pub fn feed_bytes(
     requires { ⌜ HeldFine h ⌝ }
     requires { ⌜ g .count + h .len + length (now piece) ≤ length (now ends) ⌝ }
     requires { ⌜ g .at + h .len + length (now piece) < 2 ^ 32 ⌝ }
-    ensures { λ r. ⌜ FedIs (now (table .entry)) masks g h (now (piece .entry)) (now (ends .entry)) r (now (ends .exit)) ⌝ }
+    ensures { λ r. ⌜ FedIs (automatonOf (now (table .entry)) masks) g h (now (piece .entry)) (now (ends .entry)) r (now (ends .exit)) ⌝ }
 {
     let filter = prefilter::choose(table, masks.repeats, masks.optional, masks.top, piece.len());
     let x = piece_decoder::held::resolve_held(h, piece);

@@ -20,7 +20,8 @@ use Rattle.model.proofs.Searches.{Suffix, Same, Ending}
 use Rattle.model.proofs.Searches as Searches
 use Rattle.model.proofs.Scans.{opened, scannerFrom, scanner-is-plain}
 use Rattle.shift_and.specs.Bit.{isSet, bit, count}
-use Rattle.shift_and.specs.ForwardStep.{onByte, opening, topBit, shortest}
+use Rattle.shift_and.specs.ForwardStep.{topBit, shortest}
+use Rattle.shift_and.specs.Automaton.{Automaton, stepWith, stepOn, openingState}
 use Rattle.shift_and.specs.Masks.{maskFrom, mask, allMask, optionalMask, Encodes}
 use Rattle.shift_and.proofs.Digits.{push-bit, and-bit, not-bit, none-bit}
 use Rattle.shift_and.proofs.Closure.{closed, moved, step-bit, opening-bit}
@@ -80,97 +81,97 @@ later-is : (x y b s k o n set rep opt : Bool) → b ≡ set → s ≡ (rep && se
     → ((((x && b) || (y && s)) || k) || (o && n)) ≡ (((x && set) || ((y && rep) && set)) || (opt && n))
 later-is x y b s k o n set rep opt eb es ek eo = rw (eb, es, ek, eo, or-false, and-assoc)
 
-module _ (w : ℕ) (ps : List Position) (table : ℕ → ℕ) (repeats optional : ℕ) (e : Encodes w ps table repeats optional) where
-  fits : optional < 2 ^ w
-  fits = rw (e .is-optional) (mask-fits w (λ p. p .optional) ps (e .fits))
+module _ (A : Automaton) (ps : List Position) (e : Encodes A ps) where
+  fits : A .optional < 2 ^ A .width
+  fits = rw (e .is-optional) (mask-fits (A .width) (λ p. p .optional) ps (e .fits))
 
-  optional-low : bit optional 0 ≡ false
+  optional-low : bit (A .optional) 0 ≡ false
   optional-low = rw (e .is-optional) (mask-low (λ p. p .optional) ps)
 
-  optional-bit : (i : ℕ) → i < length ps → bit optional (suc i) ≡ nth ps i .optional
+  optional-bit : (i : ℕ) → i < length ps → bit (A .optional) (suc i) ≡ nth ps i .optional
   optional-bit i h = rw (e .is-optional) (mask-bit (λ p. p .optional) ps i h)
 
-  admits-bit : (c i : ℕ) → i < length ps → bit (table c) (suc i) ≡ nth ps i .set c
+  admits-bit : (c i : ℕ) → i < length ps → bit (A .table c) (suc i) ≡ nth ps i .set c
   admits-bit c i h = rw (e .is-table c) (mask-bit (λ p. p .set c) ps i h)
 
-  stays-low : (c : ℕ) → bit (bitAnd (table c) repeats) 0 ≡ false
-  stays-low c = and-bit (table c) repeats 0 ∙ ap (λ (b : Bool). bit (table c) 0 && b) (ap (λ (n : ℕ). bit n 0) (e .is-repeats) ∙ mask-low (λ p. p .repeats) ps) ∙ and-false (bit (table c) 0)
+  stays-low : (c : ℕ) → bit (bitAnd (A .table c) (A .repeats)) 0 ≡ false
+  stays-low c = and-bit (A .table c) (A .repeats) 0 ∙ ap (λ (b : Bool). bit (A .table c) 0 && b) (ap (λ (n : ℕ). bit n 0) (e .is-repeats) ∙ mask-low (λ p. p .repeats) ps) ∙ and-false (bit (A .table c) 0)
 
-  stays-bit : (c i : ℕ) → i < length ps → bit (bitAnd (table c) repeats) (suc i) ≡ (nth ps i .repeats && nth ps i .set c)
+  stays-bit : (c i : ℕ) → i < length ps → bit (bitAnd (A .table c) (A .repeats)) (suc i) ≡ (nth ps i .repeats && nth ps i .set c)
   stays-bit c i h =
-      and-bit (table c) repeats (suc i)
+      and-bit (A .table c) (A .repeats) (suc i)
       ∙ ap₂ (λ (x y : Bool). x && y) (admits-bit c i h) (ap (λ (n : ℕ). bit n (suc i)) (e .is-repeats) ∙ mask-bit (λ p. p .repeats) ps i h)
       ∙ and-comm (nth ps i .set c) (nth ps i .repeats)
 
-  pub word-steps : (k : Bool) (c d : ℕ) → Steps k ps c (bit d) (bit (onByte w table repeats optional k d c))
-  unfolding closed moved
+  pub word-steps : (k : Bool) (c d : ℕ) → Steps k ps c (bit d) (bit (stepOn A (oneIf k) d c))
+  unfolding closed moved stepWith
   word-steps k c d =
-      let b = table c in
-      let s = bitAnd b repeats in
+      let b = A .table c in
+      let s = bitAnd b (A .repeats) in
       let row = moved (bit d) (bit b) (bit s) (bit (oneIf k)) in
-      let at : (j : ℕ) → j < w → bit (onByte w table repeats optional k d c) j ≡ closed row (bit optional) j = λ j h. step-bit w d b s (oneIf k) optional fits optional-low j h in
+      let at : (j : ℕ) → j < A .width → bit (stepOn A (oneIf k) d c) j ≡ closed row (bit (A .optional)) j = λ j h. step-bit (A .width) d b s (oneIf k) (A .optional) fits optional-low j h in
       let l = e .fits in
       record {
         first = at 0 (omega arith) ∙ first-is (bit d 0) (bit s 0) (bit (oneIf k) 0) k (stays-low c) (one-first k);
         later = λ i h.
             at (suc i) (omega arith)
-            ∙ ap (λ (x : Bool). (((bit d i && bit b (suc i)) || (bit d (suc i) && bit s (suc i))) || bit (oneIf k) (suc i)) || (bit optional (suc i) && x)) (sym (at i (omega arith)))
-            ∙ later-is (bit d i) (bit d (suc i)) (bit b (suc i)) (bit s (suc i)) (bit (oneIf k) (suc i)) (bit optional (suc i)) (bit (onByte w table repeats optional k d c) i) (nth ps i .set c) (nth ps i .repeats) (nth ps i .optional)
+            ∙ ap (λ (x : Bool). (((bit d i && bit b (suc i)) || (bit d (suc i) && bit s (suc i))) || bit (oneIf k) (suc i)) || (bit (A .optional) (suc i) && x)) (sym (at i (omega arith)))
+            ∙ later-is (bit d i) (bit d (suc i)) (bit b (suc i)) (bit s (suc i)) (bit (oneIf k) (suc i)) (bit (A .optional) (suc i)) (bit (stepOn A (oneIf k) d c) i) (nth ps i .set c) (nth ps i .repeats) (nth ps i .optional)
             (admits-bit c i h) (stays-bit c i h) (one-later k i) (optional-bit i h);
       }
 
-  pub word-opens : Opens ps (bit (opening w optional))
+  pub word-opens : Opens ps (bit (openingState A))
   unfolding closed
   word-opens =
-      let at : (j : ℕ) → j < w → bit (opening w optional) j ≡ closed (bit 1) (bit optional) j = λ j h. opening-bit w optional fits optional-low j h in
+      let at : (j : ℕ) → j < A .width → bit (openingState A) j ≡ closed (bit 1) (bit (A .optional)) j = λ j h. opening-bit (A .width) (A .optional) fits optional-low j h in
       let l = e .fits in
       record {
         first = at 0 (omega arith) ∙ one-first true;
         later = λ i h.
             at (suc i) (omega arith)
-            ∙ ap₂ (λ (x y : Bool). x || (bit optional (suc i) && y)) (one-later true i) (sym (at i (omega arith)))
-            ∙ ap (λ (x : Bool). x && bit (opening w optional) i) (optional-bit i h);
+            ∙ ap₂ (λ (x y : Bool). x || (bit (A .optional) (suc i) && y)) (one-later true i) (sym (at i (omega arith)))
+            ∙ ap (λ (x : Bool). x && bit (openingState A) i) (optional-bit i h);
       }
 
   -- ---- 1. forward: all that began anywhere in the text read
 
-  pub scanned-open : Scanned ps [] (opening w optional)
-  scanned-open = Searches.scan-open ps (bit (opening w optional)) word-opens
+  pub scanned-open : Scanned ps [] (openingState A)
+  scanned-open = Searches.scan-open ps (bit (openingState A)) word-opens
 
-  pub scanned-step : (t : List ℕ) (d c : ℕ) → Scanned ps t d → Scanned ps (t ++ (c ∷ [])) (onByte w table repeats optional true d c)
-  scanned-step t d c r = Searches.scan-step ps t c (bit d) (bit (onByte w table repeats optional true d c)) (word-steps true c d) r
+  pub scanned-step : (t : List ℕ) (d c : ℕ) → Scanned ps t d → Scanned ps (t ++ (c ∷ [])) (stepOn A 1 d c)
+  scanned-step t d c r = Searches.scan-step ps t c (bit d) (bit (stepOn A 1 d c)) (word-steps true c d) r
 
   -- A whole list of calls.
   pub words-are-plain : (limit : ℕ) (cs : List Call)
-      → scannerFrom limit ℕ (onByte w table repeats optional true) (topBit (length ps)) (opened (opening w optional)) cs ≡ scanFrom limit ps nothingKept cs
+      → scannerFrom limit ℕ (stepOn A 1) (topBit (length ps)) (opened (openingState A)) cs ≡ scanFrom limit ps nothingKept cs
   words-are-plain limit cs =
-      scanner-is-plain limit ℕ (onByte w table repeats optional true) (topBit (length ps)) ps (λ d t. Scanned ps t d) (λ d t c r. scanned-step t d c r)
-      (λ d t r. scanned-top ps t d r) (opening w optional) scanned-open cs
+      scanner-is-plain limit ℕ (stepOn A 1) (topBit (length ps)) ps (λ d t. Scanned ps t d) (λ d t c r. scanned-step t d c r)
+      (λ d t r. scanned-top ps t d r) (openingState A) scanned-open cs
 
   -- ---- 2. anchored: just the bytes read
 
-  pub anchored-open : Anchored ps [] (opening w optional)
-  anchored-open = Searches.anchored-open ps (bit (opening w optional)) word-opens
+  pub anchored-open : Anchored ps [] (openingState A)
+  anchored-open = Searches.anchored-open ps (bit (openingState A)) word-opens
 
-  pub anchored-step : (t : List ℕ) (d c : ℕ) → Anchored ps t d → Anchored ps (t ++ (c ∷ [])) (onByte w table repeats optional false d c)
-  anchored-step t d c r = Searches.anchored-step ps t c (bit d) (bit (onByte w table repeats optional false d c)) (word-steps false c d) r
+  pub anchored-step : (t : List ℕ) (d c : ℕ) → Anchored ps t d → Anchored ps (t ++ (c ∷ [])) (stepOn A 0 d c)
+  anchored-step t d c r = Searches.anchored-step ps t c (bit d) (bit (stepOn A 0 d c)) (word-steps false c d) r
 
 -- ---- 3. backwards, from all states, where table and masks are those of the reversed positions
 
-module _ (w : ℕ) (ps : List Position) (table : ℕ → ℕ) (repeats optional : ℕ) (e : Encodes w (reverse ps) table repeats optional) where
-  pub backward-open : Inhabited ps → Backward ps [] (2 ^ w - 1)
+module _ (A : Automaton) (ps : List Position) (e : Encodes A (reverse ps)) where
+  pub backward-open : Inhabited ps → Backward ps [] (2 ^ A .width - 1)
   backward-open inhabited =
-      Searches.backward-open (reverse ps) (bit (2 ^ w - 1)) (inhabited-reverse ps inhabited)
+      Searches.backward-open (reverse ps) (bit (2 ^ A .width - 1)) (inhabited-reverse ps inhabited)
       (λ i h. let l = e .fits in subst (λ (b : Bool). T b) (sym (every i (omega arith))) tt)
     where
-      every : (j : ℕ) → j < w → bit (2 ^ w - 1) j ≡ true
+      every : (j : ℕ) → j < A .width → bit (2 ^ A .width - 1) j ≡ true
       every j h =
-          let z : 2 ^ w - 1 ≡ (2 ^ w - 1) - 0 = omega arith in
-          ap (λ (n : ℕ). bit n j) z ∙ not-bit w 0 j (pow-pos w) h ∙ ap not (none-bit j)
+          let z : 2 ^ A .width - 1 ≡ (2 ^ A .width - 1) - 0 = omega arith in
+          ap (λ (n : ℕ). bit n j) z ∙ not-bit (A .width) 0 j (pow-pos (A .width)) h ∙ ap not (none-bit j)
 
-  pub backward-step : (v : List ℕ) (d c : ℕ) → Backward ps v d → Backward ps (v ++ (c ∷ [])) (onByte w table repeats optional false d c)
+  pub backward-step : (v : List ℕ) (d c : ℕ) → Backward ps v d → Backward ps (v ++ (c ∷ [])) (stepOn A 0 d c)
   backward-step v d c r =
-      Searches.backward-step (reverse ps) v c (bit d) (bit (onByte w table repeats optional false d c)) (word-steps w (reverse ps) table repeats optional e false c d) r
+      Searches.backward-step (reverse ps) v c (bit d) (bit (stepOn A 0 d c)) (word-steps A (reverse ps) e false c d) r
 
 -- ---- the shortest length
 

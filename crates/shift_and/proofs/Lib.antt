@@ -8,3 +8,4 @@ pub mod ClosedStates
 pub mod Counting
 pub mod MaskLaws
 pub mod Bridge
+pub mod Runs

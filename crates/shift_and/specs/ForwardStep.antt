@@ -5,7 +5,6 @@ use mathlib.Core.Bool.{Bool}
 use lib.Bits.{bitAnd, bitOr, bitXor}
 use lib.Count.{ones}
 use lib.Dec.{eqb}
-use Rattle.model.specs.Occurrence.{oneIf}
 
 -- "((D shifted up by one, bit 63 dropping out) and B[c]) or (D and S[c]) or 1": b is B[c], s is S[c], and k the bit that every step sets, if any.
 unfoldable pub move : (w d b s k : ℕ) → ℕ
@@ -29,11 +28,6 @@ blockStarts w a = bitAnd (a / 2) ((2 ^ w - 1) - a)
 
 abbrev pub blockEnds : (w a : ℕ) → ℕ
 blockEnds w a = bitAnd a ((2 ^ w - 1) - a / 2)
-
--- "On byte c": the table says which positions admit it; S[c] is what that and the mask of the repeating positions share; k says whether every step begins
--- again, as the forward scan's does.
-abbrev pub onByte : (w : ℕ) (table : ℕ → ℕ) (repeats optional : ℕ) (k : Bool) (d c : ℕ) → ℕ
-onByte w table repeats optional k d c = advance w d (table c) (bitAnd (table c) repeats) (oneIf k) optional (blockStarts w optional) (blockEnds w optional)
 
 -- "The opening D is 1 after the same second half."
 unfoldable pub opening : (w a : ℕ) → ℕ

@@ -1,4 +1,5 @@
 -- The forward step on words, and the masks of a list of positions.
 pub mod Bit
 pub mod ForwardStep
+pub mod Automaton
 pub mod Masks

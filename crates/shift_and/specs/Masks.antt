@@ -5,6 +5,7 @@ use mathlib.Core.List.{List, [], _∷_}
 use Prim.Native.Nat.{ℕ, _+_, _*_, _<_}
 use lib.ListN.{length}
 use Rattle.model.specs.Occurrence.{Position, oneIf}
+use Rattle.shift_and.specs.Automaton.{Automaton}
 
 -- The positions that pass a test, the first of them at bit 0 ..
 unfoldable pub maskFrom : (Position → Bool) → List Position → ℕ
@@ -27,11 +28,11 @@ repeatsMask ps = mask (λ p. p .repeats) ps
 abbrev pub admitsMask : List Position → (c : ℕ) → ℕ
 admitsMask ps c = mask (λ p. p .set c) ps
 
--- "Tables B and S say, for each byte, which positions admit it and which of these repeat. A marks optional positions": table, repeats and optional, in
--- words of w bits, are those of the positions. S[c] is what B[c] and the mask of the repeating positions share. For the positions read backwards, ps is
--- the reversed list.
-pub record Encodes (w : ℕ) (ps : List Position) (table : ℕ → ℕ) (repeats optional : ℕ) : Type 0 where
-  pub fits : length ps < w
-  pub is-table : (c : ℕ) → table c ≡ admitsMask ps c
-  pub is-repeats : repeats ≡ repeatsMask ps
-  pub is-optional : optional ≡ optionalMask ps
+-- It is the automaton of the positions: its table, its masks, in words of its width, and its top are theirs. For the positions read backwards, ps is the
+-- reversed list.
+pub record Encodes (a : Automaton) (ps : List Position) : Type 0 where
+  pub fits : length ps < a .width
+  pub is-table : (c : ℕ) → a .table c ≡ admitsMask ps c
+  pub is-repeats : a .repeats ≡ repeatsMask ps
+  pub is-optional : a .optional ≡ optionalMask ps
+  pub is-top : a .top ≡ length ps

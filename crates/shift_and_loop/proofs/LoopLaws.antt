@@ -1,31 +1,30 @@
 -- A run goes on, byte by byte and over what may be passed: what the rest of the text would make of the present place is what the text makes of the
--- first one. And stepping over two runs of bytes. Assumes nothing.
+-- first one. Assumes nothing.
 use mathlib.Core.Path.{_≡_, refl, sym, ap, subst, _∙_}
-use mathlib.Core.List.{List, [], _∷_, _++_}
-use mathlib.Core.Bool.{Bool, true, false, not}
-use Prim.Native.Nat.{ℕ, suc, _+_, _-_, _^_, _≤_, _<_}
+use mathlib.Core.List.{List, _∷_}
+use mathlib.Core.Bool.{Bool, true, false}
+use Prim.Native.Nat.{ℕ, _+_, _-_, _^_, _≤_, _<_}
 use native.Mathlib.Numerals.{add-one}
-use native.Mathlib.Nat.{add-zero}
 use native.Mathlib.Omega.{arith}
 use lib.ListN.{length, drop, getD, set, length-set}
 use lib.Seq.{sets, drop-cons}
-use borrow.Author.Tests.{not-false}
 use Rattle.model.specs.Occurrence.{consIf}
 use Rattle.shift_and.specs.ForwardStep.{topBit}
 use Rattle.shift_and_step.specs.declared.Masks.{Masks}
-use Rattle.shift_and_step.specs.Stepping.{stepOn, stateAfter, endsIn}
-use Rattle.shift_and_step.specs.ClosedStates.{Closed, StepsTo, Fixpoint}
+use Rattle.shift_and.specs.Automaton.{stepOn, stateAfter, endsIn}
+use Rattle.shift_and_step.specs.Stepping.{automatonOf}
+use Rattle.shift_and_step.specs.ClosedStates.{Closed, StepsTo}
 use Rattle.shift_and_loop.specs.declared.Cursor.{Cursor}
-use Rattle.shift_and_loop.specs.Loops.{LoopProgress, Advanced, Skippable, SkippableUpTo, HasRoom}
+use Rattle.shift_and_loop.specs.Loops.{LoopProgress, Advanced, Skippable, HasRoom}
 
 -- one turn of each definition
 module _ (t : List ℕ) (m : Masks) (d at : ℕ) (text : List ℕ) (i : ℕ) (h : i < length text) where
-  pub state-turn : stateAfter t m d (drop i text) ≡ stateAfter t m (stepOn t m d (getD text i 0)) (drop (i + 1) text)
+  pub state-turn : stateAfter (automatonOf t m) d (drop i text) ≡ stateAfter (automatonOf t m) (stepOn (automatonOf t m) 1 d (getD text i 0)) (drop (i + 1) text)
   unfolding stateAfter
   state-turn = rw (add-one, drop-cons text i 0)
 
-  pub ends-turn : endsIn t m d at (drop i text)
-      ≡ consIf (topBit (m .top) (stepOn t m d (getD text i 0))) (at + 1) (endsIn t m (stepOn t m d (getD text i 0)) (at + 1) (drop (i + 1) text))
+  pub ends-turn : endsIn (automatonOf t m) d at (drop i text)
+      ≡ consIf (topBit (m .top) (stepOn (automatonOf t m) 1 d (getD text i 0))) (at + 1) (endsIn (automatonOf t m) (stepOn (automatonOf t m) 1 d (getD text i 0)) (at + 1) (drop (i + 1) text))
   unfolding endsIn
   ends-turn = rw (add-one i, drop-cons text i 0)
 
@@ -38,14 +37,14 @@ begun t m text ends₀ d₀ at₀ n₀ i₀ h =
 module _ {t : List ℕ} {m : Masks} {text ends₀ ends : List ℕ} {d₀ at₀ n₀ i₀ d at n i : ℕ}
     (g : LoopProgress t m text ends₀ d₀ at₀ n₀ i₀ ends d at n i) where
   -- b is the byte at i, and d′ the state after it
-  module _ {b d′ : ℕ} (h : i < length text) (eb : b ≡ getD text i 0) (es : d′ ≡ stepOn t m d b) where
-    e : d′ ≡ stepOn t m d (getD text i 0)
+  module _ {b d′ : ℕ} (h : i < length text) (eb : b ≡ getD text i 0) (es : d′ ≡ stepOn (automatonOf t m) 1 d b) where
+    e : d′ ≡ stepOn (automatonOf t m) 1 d (getD text i 0)
     e = rw (← eb) es
 
     -- no end there
     pub passed : {r : Bool} → r ≡ topBit (m .top) d′ → r ≡ false → LoopProgress t m text ends₀ d₀ at₀ n₀ i₀ ends d′ (at + 1) n (i + 1)
     passed er z =
-        let q : endsIn t m d at (drop i text) ≡ endsIn t m d′ (at + 1) (drop (i + 1) text) =
+        let q : endsIn (automatonOf t m) d at (drop i text) ≡ endsIn (automatonOf t m) d′ (at + 1) (drop (i + 1) text) =
         rw (ends-turn t m d at text i h, ← e, ← er, z) in
         record {
           fore = omega arith;
@@ -61,7 +60,7 @@ module _ {t : List ℕ} {m : Masks} {text ends₀ ends : List ℕ} {d₀ at₀ n
     -- an end there, which is stored
     pub ended : {r : Bool} → r ≡ topBit (m .top) d′ → r ≡ true → LoopProgress t m text ends₀ d₀ at₀ n₀ i₀ (set ends n (at + 1)) d′ (at + 1) (n + 1) (i + 1)
     ended er z =
-        let q : endsIn t m d at (drop i text) ≡ (at + 1) ∷ endsIn t m d′ (at + 1) (drop (i + 1) text) =
+        let q : endsIn (automatonOf t m) d at (drop i text) ≡ (at + 1) ∷ endsIn (automatonOf t m) d′ (at + 1) (drop (i + 1) text) =
         rw (ends-turn t m d at text i h, ← e, ← er, z) in
         record {
           fore = omega arith;
@@ -85,7 +84,7 @@ module _ {t : List ℕ} {m : Masks} {text ends₀ ends : List ℕ} {d₀ at₀ n
   -- over what may be passed
   pub skipped-on : {at′ j : ℕ} → Skippable t m d text i j → at′ + i ≡ at + j → LoopProgress t m text ends₀ d₀ at₀ n₀ i₀ ends d at′ n j
   skipped-on {at′} {j} p e =
-      let q : endsIn t m d at′ (drop j text) ≡ endsIn t m d at (drop i text) = p .ends at at′ e in
+      let q : endsIn (automatonOf t m) d at′ (drop j text) ≡ endsIn (automatonOf t m) d at (drop i text) = p .ends at at′ e in
       record {
         fore = omega arith;
         within = p .within;
@@ -177,43 +176,9 @@ module _ {t : List ℕ} {m : Masks} {text ends₀ ends : List ℕ} {s : Cursor} 
   loop-over {p} ep h u =
       subst (λ (k : ℕ). Advanced t m text ends₀ (s .d) (s .at) (s .n) (s .i) (record { d = d; at = k; n = n; i = i }) ends) (sym ep) (advanced (g .going) (omega arith))
 
--- the same after bytes at which the state stays
-module _ {t : List ℕ} {m : Masks} {text ends₀ ends : List ℕ} {s : Cursor} {d n i j until : ℕ} (g : LoopInvariant t m until text ends₀ s ends d n i)
-    (p : SkippableUpTo t m d until text i j) where
-  on : LoopInvariant t m until text ends₀ s ends d n j
-  on = record {
-    going = skipped-on (g .going) (p .passed) (omega (arith, p .passed .fore, g .fore));
-    is-closed = g .is-closed;
-    far = g .far;
-    fore = omega (arith, p .passed .fore, g .fore);
-    within = p .passed .within;
-    fits = g .fits;
-    behind = omega (arith, p .passed .fore, g .behind);
-    room = g .room;
-  }
-
-  pub stay-over : {q : ℕ} → q ≡ s .at + (j - s .i) → s .i < until → j ≡ until
-      → Advanced t m text ends₀ (s .d) (s .at) (s .n) (s .i) (record { d = d; at = q; n = n; i = j }) ends
-  stay-over eq h e = loop-over on eq h (omega arith)
-
-  module _ {b d′ : ℕ} (h : j ≡ until → ⊥) (eb : b ≡ getD text j 0) (es : StepsTo m d (getD t b 0) d′) where
-    left : j < until
-    left = omega (arith, p .short)
-
-    pub stay-passed : {r : Bool} → r ≡ topBit (m .top) d′ → r ≡ false → LoopInvariant t m until text ends₀ s ends d′ n (j + 1)
-    stay-passed er z = loop-passed on left eb es er z
-
-    pub stay-ended : {r : Bool} {q : ℕ} → r ≡ topBit (m .top) d′ → r ≡ true → q ≡ s .at + (j + 1 - s .i)
-        → LoopInvariant t m until text ends₀ s (set ends n q) d′ (n + 1) (j + 1)
-    stay-ended er z eq = loop-ended on left eb es er z eq
-
-    pub stay-stopped : {r : Bool} {q : ℕ} → r ≡ topBit (m .top) d′ → r ≡ false → q ≡ s .at + (j + 1 - s .i)
-        → Advanced t m text ends₀ (s .d) (s .at) (s .n) (s .i) (record { d = d′; at = q; n = n; i = j + 1 }) ends
-    stay-stopped er z eq = loop-stopped on left eb es er z eq
-
 -- one byte alone
 module _ {t : List ℕ} {m : Masks} {text ends : List ℕ} {s : Cursor} {b d′ : ℕ} (room : HasRoom s (length text) text ends) (eb : b ≡ getD text (s .i) 0)
-    (es : d′ ≡ stepOn t m (s .d) b) where
+    (es : d′ ≡ stepOn (automatonOf t m) 1 (s .d) b) where
   start : LoopProgress t m text ends (s .d) (s .at) (s .n) (s .i) ends (s .d) (s .at) (s .n) (s .i)
   start = begun t m text ends (s .d) (s .at) (s .n) (s .i) (omega arith)
 
@@ -245,7 +210,7 @@ pass-more {t} {m} {d} {text} {i} {j} {k} p q = record {
 }
 
 -- a byte that changes nothing, where nothing is reported
-pub pass-one : (t : List ℕ) (m : Masks) (d : ℕ) (text : List ℕ) (i : ℕ) → i < length text → stepOn t m d (getD text i 0) ≡ d → topBit (m .top) d ≡ false
+pub pass-one : (t : List ℕ) (m : Masks) (d : ℕ) (text : List ℕ) (i : ℕ) → i < length text → stepOn (automatonOf t m) 1 d (getD text i 0) ≡ d → topBit (m .top) d ≡ false
     → Skippable t m d text i (i + 1)
 pass-one t m d text i h e z = record {
   fore = omega arith;
@@ -254,32 +219,3 @@ pass-one t m d text i h e z = record {
   ends = λ at at′ p. let q : at′ ≡ at + 1 = omega arith in
       rw q (sym (rw (e, z) at (ends-turn t m d at text i h)));
 }
-
-pub stay-none : (t : List ℕ) (m : Masks) (d until : ℕ) (text : List ℕ) (i : ℕ) → i ≤ until → until ≤ length text → SkippableUpTo t m d until text i i
-stay-none t m d until text i l w = record { passed = pass-none t m d text i (omega arith); short = l }
-
--- a byte at which the state stays
-pub stay-on : {t : List ℕ} {m : Masks} {d until : ℕ} {text : List ℕ} {i j c : ℕ} {s r : Bool} → SkippableUpTo t m d until text i j → j < until → until ≤ length text → c ≡ getD text j 0
-    → Fixpoint m d (getD t c 0) s → not s ≡ false → r ≡ topBit (m .top) d → r ≡ false → SkippableUpTo t m d until text i (j + 1)
-stay-on {t} {m} {d} {until} {text} {i} {j} {c} {s} {r} p h w ec st e er z =
-    let stays : stepOn t m d c ≡ d = st .says (not-false s e) in
-    record { passed = pass-more (p .passed) (pass-one t m d text j (omega arith) (rw ec at stays) (sym er ∙ z)); short = omega arith }
-
--- ---- stepping over two runs of bytes is stepping over the first and then over the second
-
-pub state-append : (t : List ℕ) (m : Masks) (d : ℕ) (xs ys : List ℕ) → stateAfter t m d (xs ++ ys) ≡ stateAfter t m (stateAfter t m d xs) ys
-unfolding stateAfter
-state-append t m d [] ys = refl
-state-append t m d (x ∷ xs) ys = state-append t m (stepOn t m d x) xs ys
-
-cons-append : (b : Bool) (e : ℕ) (es fs : List ℕ) → consIf b e (es ++ fs) ≡ consIf b e es ++ fs
-cons-append true e es fs = refl
-cons-append false e es fs = refl
-
-pub ends-append : (t : List ℕ) (m : Masks) (d at : ℕ) (xs ys : List ℕ)
-    → endsIn t m d at (xs ++ ys) ≡ endsIn t m d at xs ++ endsIn t m (stateAfter t m d xs) (at + length xs) ys
-unfolding stateAfter endsIn
-ends-append t m d at [] ys = rw add-zero
-ends-append t m d at (x ∷ xs) ys =
-    let k : at + 1 + length xs ≡ at + suc (length xs) = omega arith in
-    rw (ends-append t m (stepOn t m d x) (at + 1) xs ys, k) (cons-append (topBit (m .top) (stepOn t m d x)) (at + 1) _ _)

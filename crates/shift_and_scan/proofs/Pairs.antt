@@ -24,7 +24,8 @@ use Rattle.byte_search.specs.BlockTests.{NoneBefore}
 use Rattle.prefilter_search.specs.Candidates.{pairAt}
 use Rattle.prefilter.specs.Soundness.{PairSound}
 use Rattle.shift_and_step.specs.declared.Masks.{Masks}
-use Rattle.shift_and_step.specs.Stepping.{stepN, stepOn, stateAfter, endsIn}
+use Rattle.shift_and.specs.Automaton.{stepWith, stepOn, stateAfter, endsIn}
+use Rattle.shift_and_step.specs.Stepping.{automatonOf, stepN}
 use Rattle.shift_and_loop.specs.Loops.{Skippable}
 use Rattle.shift_and_loop.proofs.LoopLaws.{state-turn, ends-turn}
 use Rattle.shift_and_scan.proofs.SegmentLaws.{pass-missed}
@@ -77,7 +78,7 @@ module _ (t : List ℕ) (m : Masks) (a b x y : ℕ) (h : PairSound t (m .repeats
         go (no q) = let r : i ≡ b = omega arith in rw r gone
 
     step-plainly : stepN m 1 d e ≡ plainly d e
-    unfolding stepN advance move plainly bit
+    unfolding stepWith advance move plainly bit
     step-plainly =
         let small : d < 2 ^ (b + 1) = below-lt (b + 1) d l in
         let j : b + 1 ≤ 63 = omega (arith, h .high) in
@@ -107,14 +108,14 @@ module _ (t : List ℕ) (m : Masks) (a b x y : ℕ) (h : PairSound t (m .repeats
 -- ---- two states that the rest of the text makes the same of
 
 record Alike (t : List ℕ) (m : Masks) (text : List ℕ) (i d e : ℕ) : Type 0 where
-  state : stateAfter t m d (drop i text) ≡ stateAfter t m e (drop i text)
-  ends : (at : ℕ) → endsIn t m d at (drop i text) ≡ endsIn t m e at (drop i text)
+  state : stateAfter (automatonOf t m) d (drop i text) ≡ stateAfter (automatonOf t m) e (drop i text)
+  ends : (at : ℕ) → endsIn (automatonOf t m) d at (drop i text) ≡ endsIn (automatonOf t m) e at (drop i text)
 
 alike-same : (t : List ℕ) (m : Masks) (text : List ℕ) (i d e : ℕ) → d ≡ e → Alike t m text i d e
 alike-same t m text i d e q = record { state = rw q; ends = λ at. rw q }
 
-alike-turn : (t : List ℕ) (m : Masks) (text : List ℕ) (i d e d′ e′ : ℕ) → i < length text → stepOn t m d (getD text i 0) ≡ d′
-    → stepOn t m e (getD text i 0) ≡ e′ → topBit (m .top) d′ ≡ false → topBit (m .top) e′ ≡ false → Alike t m text (i + 1) d′ e′ → Alike t m text i d e
+alike-turn : (t : List ℕ) (m : Masks) (text : List ℕ) (i d e d′ e′ : ℕ) → i < length text → stepOn (automatonOf t m) 1 d (getD text i 0) ≡ d′
+    → stepOn (automatonOf t m) 1 e (getD text i 0) ≡ e′ → topBit (m .top) d′ ≡ false → topBit (m .top) e′ ≡ false → Alike t m text (i + 1) d′ e′ → Alike t m text i d e
 alike-turn t m text i d e d′ e′ h sd se zd ze k = record {
   state = rw (state-turn t m d 0 text i h, sd, state-turn t m e 0 text i h, se) (k .state);
   ends = λ at. rw (ends-turn t m d at text i h, sd, zd, ends-turn t m e at text i h, se, ze) (k .ends (at + 1));

@@ -10,7 +10,8 @@ use lib.Seq.{sets}
 use Rattle.byte_search.specs.BlockTests.{NoneBefore}
 use Rattle.shift_and_step.specs.declared.Masks.{Masks}
 use Rattle.shift_and_loop.specs.declared.Cursor.{Cursor}
-use Rattle.shift_and_step.specs.Stepping.{stateAfter, endsIn}
+use Rattle.shift_and.specs.Automaton.{stateAfter, endsIn}
+use Rattle.shift_and_step.specs.Stepping.{automatonOf}
 use Rattle.shift_and_loop.specs.Loops.{LoopProgress, Advanced, Skippable, HasRoom}
 use Rattle.shift_and_loop.proofs.LoopLaws.{begun, advanced, skipped-on, joined, pass-none, pass-more}
 use Rattle.shift_and_scan.specs.Scanning.{Scanned, SegmentEnd}
@@ -31,14 +32,14 @@ pass-missed {t} {m} {d} {text} f {i} {end} {r} w one g =
 
 -- a run that has come to the end of the text from its front
 pub over : {t : List ℕ} {m : Masks} {text ends₀ ends : List ℕ} {d₀ base d at n i : ℕ} → LoopProgress t m text ends₀ d₀ base 0 0 ends d at n i
-    → length text ≤ i → length text ≤ length ends₀ → Scanned t m d₀ base text ends₀ (record { d = d; count = n }) ends
+    → length text ≤ i → length text ≤ length ends₀ → Scanned (automatonOf t m) d₀ base text ends₀ (record { d = d; count = n }) ends
 unfolding stateAfter endsIn
 over {t} {m} {text} {ends₀} {ends} {d₀} {base} {d} {at} {n} {i} g stop room =
     let none : drop i text ≡ [] = drop-of-length-le text stop in
-    let s : d ≡ stateAfter t m d₀ text = rw none at (g .state) in
-    let k : n + 0 ≡ length (endsIn t m d₀ base text) = rw (none, zero-add) at (g .count) in
-    let l : ends ≡ sets ends₀ 0 (endsIn t m d₀ base text) = rw none at (g .list) in
-    let k′ : n ≡ length (endsIn t m d₀ base text) = omega arith in
+    let s : d ≡ stateAfter (automatonOf t m) d₀ text = rw none at (g .state) in
+    let k : n + 0 ≡ length (endsIn (automatonOf t m) d₀ base text) = rw (none, zero-add) at (g .count) in
+    let l : ends ≡ sets ends₀ 0 (endsIn (automatonOf t m) d₀ base text) = rw none at (g .list) in
+    let k′ : n ≡ length (endsIn (automatonOf t m) d₀ base text) = omega arith in
     record { state = s; count = k′; few = omega arith; list = l }
 
 -- ---- a segment: turns of a skip, then a loop

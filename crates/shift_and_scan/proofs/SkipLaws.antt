@@ -16,6 +16,7 @@ use Rattle.prefilter_search.specs.Candidates.{inTable, inRange, pairAt}
 use Rattle.prefilter.specs.declared.Prefilter.{Prefilter}
 use Rattle.prefilter.specs.Soundness.{StartState, AllInRange, PairSound, PrefilterSound}
 use Rattle.shift_and_step.specs.declared.Masks.{Masks}
+use Rattle.shift_and.specs.Automaton.{stepWith}
 use Rattle.shift_and_step.specs.Stepping.{stepN}
 use Rattle.shift_and_loop.specs.Loops.{Skippable}
 use Rattle.shift_and_loop.proofs.LoopLaws.{pass-one}
@@ -25,7 +26,7 @@ use Rattle.shift_and_scan.proofs.Pairs.{pair-passes}
 -- the opening state stays at a byte whose entry has none of its follow-up
 stays : (m : Masks) (home next b : ℕ) → home ≡ opening 64 (m .optional) → next ≡ bitOr (home * 2 % 2 ^ 64) (bitAnd home (m .repeats))
     → bitAnd b next ≡ 0 → stepN m 1 home b ≡ home
-unfolding stepN advance opening
+unfolding stepWith advance opening
 stays m home next b eh en z =
     let q : move 64 home b (bitAnd b (m .repeats)) 1 ≡ 1 = move-none home b (m .repeats) (rw (← en) z) in
     rw q (sym eh)

@@ -3,7 +3,7 @@
 ghost use mathlib.Core.Path.{_≡_};
 ghost use Prim.Native.Nat.{_+_, _<_, _≤_, _^_};
 ghost use lib.ListN.{length};
-ghost use Rattle.shift_and_step.specs.Stepping.{TableFits};
+ghost use Rattle.shift_and_step.specs.Stepping.{automatonOf, TableFits};
 ghost use Rattle.prefilter.specs.Soundness.{PairSound, PrefilterSound};
 ghost use Rattle.shift_and_loop.specs.Loops.{Skippable, Advanced, HasRoom};
 ghost use Rattle.shift_and_step.specs.ClosedStates.{ClosureMasksOf};
@@ -149,7 +149,7 @@ fn scan_segment(
             };
         }
         let stop = stop_at(p.kind, i, j, until);
-        let r = shift_and_loop::run_loop(
+        let r = shift_and_fixpoint::run_loop(
             table,
             m,
             q,
@@ -323,7 +323,7 @@ pub fn scan_text(
     requires { ⌜ PrefilterSound (now table) (m .repeats) (m .optional) (m .top) p ⌝ }
     requires { ⌜ length (now text) ≤ length (now ends) ⌝ }
     requires { ⌜ base + length (now text) < 2 ^ 32 ⌝ }
-    ensures { λ r. ⌜ Scanned (now (table .entry)) m d base (now (text .entry)) (now (ends .entry)) r (now (ends .exit)) ⌝ }
+    ensures { λ r. ⌜ Scanned (automatonOf (now (table .entry)) m) d base (now (text .entry)) (now (ends .entry)) r (now (ends .exit)) ⌝ }
 {
     let q = shift_and_step::closure_masks(m.optional, m.repeats);
     let mut d = d;

@@ -15,12 +15,13 @@ use Rattle.shift_and.proofs.Unchanged.{flood-none, flood-lt, move-lt, move-odd,
 use Rattle.shift_and.proofs.ClosedStates.{flood-again, flood-start, flood-quiet, start-in, start-lt, has-beside}
 use Rattle.shift_and_step.specs.declared.Masks.{Masks}
 use Rattle.shift_and_step.specs.declared.ClosureMasks.{ClosureMasks}
+use Rattle.shift_and.specs.Automaton.{stepWith}
 use Rattle.shift_and_step.specs.Stepping.{stepN}
 use Rattle.shift_and_step.specs.ClosedStates.{ClosureMasksOf, Closed, ClosedIs, StepsTo, Fixpoint}
 
 -- nothing is optional: the step is the move
 pub step-none : (m : Masks) (k d b x : ℕ) → m .optional ≡ 0 → x ≡ move 64 d b (bitAnd b (m .repeats)) k → x ≡ stepN m k d b
-unfolding stepN advance
+unfolding stepWith advance
 step-none m k d b x z e = e ∙ sym (flood-none 64 _ (blockStarts 64 0) (blockEnds 64 0)) ∙ rw z
 
 -- an odd state stays odd in the flood, and so every step leaves one
@@ -31,7 +32,7 @@ flood-odd w d a i f e =
     or-bit d g 0 ∙ ap (λ (p : Bool). p || bit g 0) e
 
 step-odd : (m : Masks) (d b x : ℕ) → x ≡ stepN m 1 d b → x % 2 ≡ 1
-unfolding stepN advance
+unfolding stepWith advance
 step-odd m d b x e =
     let v : ℕ = move 64 d b (bitAnd b (m .repeats)) 1 in
     let i = blockStarts 64 (m .optional) in
@@ -46,7 +47,7 @@ even-bit x e = ap isSet e
 
 -- every step leaves one
 pub step-closes : (m : Masks) (d b x : ℕ) → m .optional % 2 ≡ 0 → m .optional < 2 ^ 64 → b < 2 ^ 64 → x ≡ stepN m 1 d b → Closed m x
-unfolding stepN advance
+unfolding stepWith advance
 step-closes m d b x even word hb e =
     let a = m .optional in
     let y = move 64 d b (bitAnd b (m .repeats)) 1 in
@@ -85,7 +86,7 @@ module _ (m : Masks) (q : ClosureMasks) (of : ClosureMasksOf (m .optional) q) {d
 
     -- the step is the flood of x
     by-flood : floodedBy x ≡ stepN m 1 d b
-    unfolding stepN advance y move
+    unfolding stepWith advance y move
     by-flood = ap floodedBy x-is ∙ flood-start 64 (m .optional) (s .word) (even-bit (m .optional) (s .even)) (omega arith) y y-lt
 
     closes : {r : ℕ} → r ≡ stepN m 1 d b → StepsTo m d b r

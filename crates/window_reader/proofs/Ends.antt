@@ -17,16 +17,16 @@ use Rattle.model.proofs.Law.{Steps}
 use Rattle.model.proofs.Searches as Searches
 use Rattle.model.proofs.Decided.{occurrence-decided}
 use Rattle.shift_and.specs.Bit.{bit}
-use Rattle.shift_and.specs.ForwardStep.{opening, topBit}
+use Rattle.shift_and.specs.ForwardStep.{topBit}
+use Rattle.shift_and.specs.Automaton.{Automaton, openingState}
 use Rattle.shift_and.specs.Masks.{Encodes}
 use Rattle.shift_and.proofs.Digits.{none-bit}
 use Rattle.shift_and.proofs.Bridge as Bridge
 use Rattle.shift_and.proofs.Bridge.{Anchored, anchored-top}
-use Rattle.shift_and_step.specs.declared.Masks.{Masks}
 use Rattle.window_reader.specs.declared.End.{End}
 use Rattle.window_reader.specs.declared.End.the-variants.{At, Dead, Open}
 use Rattle.window_reader.specs.Reading.{stepAt, endedN}
-use Rattle.window_reader.proofs.Steps.{step-is, none-steps}
+use Rattle.window_reader.proofs.Steps.{none-steps}
 
 -- the stretch of one byte more
 stretch-suc : (text : List ℕ) (s e : ℕ) → s ≤ e → e < length text → stretch text s (suc e) ≡ stretch text s e ++ (getD text e 0 ∷ [])
@@ -40,7 +40,10 @@ Means ps text s e k (At x) = (e < x) × OccursAt ps text s x × ((y : ℕ) → e
 Means ps text s e k (Dead x) = (y : ℕ) → e < y → OccursAt ps text s y → ⊥
 Means ps text s e k Open = (y : ℕ) → e < y → y ≤ e + k → OccursAt ps text s y → ⊥
 
-module _ (ps : List Position) (t : List ℕ) (m : Masks) (text : List ℕ) (of : Encodes 64 ps (λ c. getD t c 0) (m .repeats) (m .optional)) (np : m .top ≡ length ps) (s : ℕ) where
+module _ (ps : List Position) (A : Automaton) (text : List ℕ) (of : Encodes A ps) (s : ℕ) where
+  np : A .top ≡ length ps
+  np = of .is-top
+
   -- d are the states when the bytes from s to e have been read
   abbrev P : ℕ → ℕ → Type 0
   P d e = Anchored ps (stretch text s e) d
@@ -50,14 +53,14 @@ module _ (ps : List Position) (t : List ℕ) (m : Masks) (text : List ℕ) (of :
       subst (λ (x : List ℕ). Anchored ps x d′) (sym (stretch-suc text s e h l))
       (Searches.anchored-step ps (stretch text s e) (getD text e 0) (bit d) (bit d′) st p)
 
-  top : (e d : ℕ) → P d e → T (topBit (m .top) d) ↔ Occurs ps (stretch text s e)
+  top : (e d : ℕ) → P d e → T (topBit (A .top) d) ↔ Occurs ps (stretch text s e)
   top e d p =
       let x = occurrence-decided ps (stretch text s e) in
-      let q : topBit (m .top) d ≡ isOccurrence ps (stretch text s e) = ap (λ (n : ℕ). topBit n d) np ∙ anchored-top ps (stretch text s e) d p in
+      let q : topBit (A .top) d ≡ isOccurrence ps (stretch text s e) = ap (λ (n : ℕ). topBit n d) np ∙ anchored-top ps (stretch text s e) d p in
       (λ h. x .0 (subst (λ (b : Bool). T b) q h), λ o. subst (λ (b : Bool). T b) (sym q) (x .1 o))
 
   none-top : (e : ℕ) → P 0 e → Occurs ps (stretch text s e) → ⊥
-  none-top e p o = subst (λ (b : Bool). T b) (Bridge.top-bit (m .top) 0 ∙ none-bit (m .top)) (top e 0 p .1 o)
+  none-top e p o = subst (λ (b : Bool). T b) (Bridge.top-bit (A .top) 0 ∙ none-bit (A .top)) (top e 0 p .1 o)
 
   -- once no state is left, nothing ends at a later place
   none-up : (k e : ℕ) → s ≤ e → e + k ≤ length text → P 0 e → P 0 (e + k)
@@ -80,27 +83,26 @@ module _ (ps : List Position) (t : List ℕ) (m : Masks) (text : List ℕ) (of :
         | no l ↦ later (omega arith) o
       ]
 
-  pub ended-means : (k e d : ℕ) → s ≤ e → e + k ≤ length text → P d e → Means ps text s e k (endedN t m text d e k)
+  pub ended-means : (k e d : ℕ) → s ≤ e → e + k ≤ length text → P d e → Means ps text s e k (endedN A text d e k)
   unfolding endedN
   ended-means zero e d h l p = λ y f g o. omega arith
-  ended-means (suc k) e d h l p = rw add-one (go (eqb d′ 0) (topBit (m .top) d′) refl refl (ended-means k (suc e) d′ (omega arith) (omega arith) p′))
+  ended-means (suc k) e d h l p = rw add-one (go (eqb d′ 0) (topBit (A .top) d′) refl refl (ended-means k (suc e) d′ (omega arith) (omega arith) p′))
     where
       d′ : ℕ
-      d′ = stepAt t m text 0 d e
+      d′ = stepAt A text 0 d e
 
       p′ : P d′ (suc e)
       p′ =
           one-more e d d′ h (omega arith)
-          (subst (λ (x : ℕ). Steps false ps (getD text e 0) (bit d) (bit x)) (sym (step-is t m false d (getD text e 0)))
-          (Bridge.word-steps 64 ps (λ c. getD t c 0) (m .repeats) (m .optional) of false (getD text e 0) d)) p
+          (Bridge.word-steps A ps of false (getD text e 0) d) p
 
       rest : (x : End) → (Occurs ps (stretch text s (suc e)) → ⊥) → Means ps text s (suc e) k x → Means ps text s e (suc k) x
       rest (At x) never i = let b = i .0 in (omega arith, i .1, λ y f g o. not-here e y never f (λ l o. i .2 y l g o) o)
       rest (Dead x) never i = λ y f o. not-here e y never f (λ l o. i y l o) o
       rest Open never i = λ y f g o. not-here e y never f (λ l o. i y l (omega arith) o) o
 
-      go : (b c : Bool) → eqb d′ 0 ≡ b → topBit (m .top) d′ ≡ c → Means ps text s (suc e) k (endedN t m text d′ (suc e) k)
-          → Means ps text s e (suc k) (cond (eqb d′ 0) (Dead (suc e)) (cond (topBit (m .top) d′) (At (suc e)) (endedN t m text d′ (suc e) k)))
+      go : (b c : Bool) → eqb d′ 0 ≡ b → topBit (A .top) d′ ≡ c → Means ps text s (suc e) k (endedN A text d′ (suc e) k)
+          → Means ps text s e (suc k) (cond (eqb d′ 0) (Dead (suc e)) (cond (topBit (A .top) d′) (At (suc e)) (endedN A text d′ (suc e) k)))
       go true c z q ih =
           let p0 : P 0 (suc e) = subst (λ (x : ℕ). P x (suc e)) (eqb-true d′ 0 z) p′ in
           rw z (λ y f o. none-after (suc e) y (omega arith) f p0 o)
@@ -108,10 +110,10 @@ module _ (ps : List Position) (t : List ℕ) (m : Masks) (text : List ℕ) (of :
           let o : Occurs ps (stretch text s (suc e)) = top (suc e) d′ p′ .0 (subst (λ (b : Bool). T b) (sym q) tt) in
           rw (z, q) (omega arith, record { ordered = omega arith; inside = omega arith; occurs = o }, λ y f g o. omega arith)
       go false false z q ih =
-          rw (z, q) (rest (endedN t m text d′ (suc e) k) (λ o. subst (λ (b : Bool). T b) q (top (suc e) d′ p′ .1 o)) ih)
+          rw (z, q) (rest (endedN A text d′ (suc e) k) (λ o. subst (λ (b : Bool). T b) q (top (suc e) d′ p′ .1 o)) ih)
 
   -- from the opening
-  pub opened-means : (k : ℕ) → s + k ≤ length text → Means ps text s s k (endedN t m text (opening 64 (m .optional)) s k)
+  pub opened-means : (k : ℕ) → s + k ≤ length text → Means ps text s s k (endedN A text (openingState A) s k)
   opened-means k l =
-      ended-means k s (opening 64 (m .optional)) (omega arith) l
-      (subst (λ (x : List ℕ). Anchored ps x (opening 64 (m .optional))) (sym (slice-empty s text)) (Bridge.anchored-open 64 ps (λ c. getD t c 0) (m .repeats) (m .optional) of))
+      ended-means k s (openingState A) (omega arith) l
+      (subst (λ (x : List ℕ). Anchored ps x (openingState A)) (sym (slice-empty s text)) (Bridge.anchored-open A ps of))

@@ -13,15 +13,14 @@ use Rattle.model.proofs.Truth.{same-test}
 use Rattle.model.proofs.Searches as Searches
 use Rattle.model.proofs.Decided.{start-decided}
 use Rattle.shift_and.specs.Bit.{bit}
-use Rattle.shift_and.specs.ForwardStep.{opening, topBit}
+use Rattle.shift_and.specs.ForwardStep.{topBit}
+use Rattle.shift_and.specs.Automaton.{Automaton, openingState}
 use Rattle.shift_and.specs.Masks.{Encodes}
 use Rattle.shift_and.proofs.Bridge as Bridge
 use Rattle.shift_and.proofs.Bridge.{Scanned}
-use Rattle.shift_and_step.specs.declared.Masks.{Masks}
 use Rattle.window_reader.specs.Reading.{lastIf, stepAt, backN, startsBack}
 use Rattle.model.proofs.Shares.{occurs-to}
 use Rattle.model.proofs.Law.{Some, represents-top}
-use Rattle.window_reader.proofs.Steps.{step-is}
 
 -- ---- stretches
 
@@ -73,40 +72,42 @@ all-last f (suc k) i =
 
 -- ---- the backward pass
 
-module _ (ps : List Position) (t : List ℕ) (m : Masks) (text : List ℕ) (of : Encodes 64 (reverse ps) (λ c. getD t c 0) (m .repeats) (m .optional)) (np : m .top ≡ length ps) where
+module _ (ps : List Position) (A : Automaton) (text : List ℕ) (of : Encodes A (reverse ps)) where
+  np : A .top ≡ length ps
+  np = of .is-top ∙ length-reverse ps
+
   -- d are the states when the bytes from j on have been read, backwards
   abbrev Q : ℕ → ℕ → Type 0
   Q d j = Scanned (reverse ps) (reverse (drop j text)) d
 
-  read : (j d : ℕ) → j < length text → Q d (suc j) → Q (stepAt t m text 1 d j) j
+  read : (j d : ℕ) → j < length text → Q d (suc j) → Q (stepAt A text 1 d j) j
   read j d h p =
-      let d′ = stepAt t m text 1 d j in
+      let d′ = stepAt A text 1 d j in
       let q : reverse (drop j text) ≡ reverse (drop (suc j) text) ++ (getD text j 0 ∷ []) = ap reverse (drop-cons text j 0 h) ∙ reverse-cons (getD text j 0) (drop (suc j) text) in
       subst (λ (x : List ℕ). Scanned (reverse ps) x d′) (sym q)
-      (subst (Scanned (reverse ps) (reverse (drop (suc j) text) ++ (getD text j 0 ∷ []))) (sym (step-is t m true d (getD text j 0)))
-      (Bridge.scanned-step 64 (reverse ps) (λ c. getD t c 0) (m .repeats) (m .optional) of (reverse (drop (suc j) text)) d (getD text j 0) p))
+      (Bridge.scanned-step A (reverse ps) of (reverse (drop (suc j) text)) d (getD text j 0) p)
 
-  top : (j d : ℕ) → j ≤ length text → Q d j → topBit (m .top) d ≡ isStart ps text j
+  top : (j d : ℕ) → j ≤ length text → Q d j → topBit (A .top) d ≡ isStart ps text j
   top j d h p =
       let x = represents-top (Searches.Suffix (reverse (drop j text))) (reverse ps) (bit d) p in
       let y = start-decided ps text j in
-      let e : m .top ≡ length (reverse ps) = np ∙ sym (length-reverse ps) in
-      Bridge.top-bit (m .top) d ∙ ap (bit d) e
+      let e : A .top ≡ length (reverse ps) = np ∙ sym (length-reverse ps) in
+      Bridge.top-bit (A .top) d ∙ ap (bit d) e
       ∙ same-test (bit d (length (reverse ps))) (isStart ps text j) (λ g. y .1 (ends-start ps text j h (x .0 g)), λ g. x .1 (start-ends ps text j h (y .0 g)))
 
-  back-from : (from k d : ℕ) → from + k ≤ length text → Q d (from + k) → backN t m text from d k ≡ allFrom (isStart ps text) from k
+  back-from : (from k d : ℕ) → from + k ≤ length text → Q d (from + k) → backN A text from d k ≡ allFrom (isStart ps text) from k
   unfolding backN
   back-from from zero d h p = refl
   back-from from (suc k) d h p =
-      let d′ = stepAt t m text 1 d (from + k) in
+      let d′ = stepAt A text 1 d (from + k) in
       let e : from + suc k ≡ suc (from + k) = omega arith in
       let p′ : Q d′ (from + k) = read (from + k) d (omega arith) (subst (Q d) e p) in
       ap₂ (λ (x : List ℕ) (b : Bool). x ++ lastIf b (from + k)) (back-from from k d′ (omega arith) p′) (top (from + k) d′ (omega arith) p′)
       ∙ sym (all-last (isStart ps text) k from)
 
-  pub back-means : (from : ℕ) → from ≤ length text → startsBack t m text from ≡ allFrom (isStart ps text) from (length text - from)
+  pub back-means : (from : ℕ) → from ≤ length text → startsBack A text from ≡ allFrom (isStart ps text) from (length text - from)
   back-means from h =
       let e : length text ≡ from + (length text - from) = omega arith in
-      let o : Q (opening 64 (m .optional)) (length text) =
-      subst (λ (x : List ℕ). Scanned (reverse ps) (reverse x) (opening 64 (m .optional))) (sym (drop-length text)) (Bridge.scanned-open 64 (reverse ps) (λ c. getD t c 0) (m .repeats) (m .optional) of) in
-      back-from from (length text - from) (opening 64 (m .optional)) (omega arith) (subst (Q (opening 64 (m .optional))) e o)
+      let o : Q (openingState A) (length text) =
+      subst (λ (x : List ℕ). Scanned (reverse ps) (reverse x) (openingState A)) (sym (drop-length text)) (Bridge.scanned-open A (reverse ps) of) in
+      back-from from (length text - from) (openingState A) (omega arith) (subst (Q (openingState A)) e o)

@@ -7,7 +7,7 @@ use Prim.Native.Nat.{ℕ, zero, suc, _+_, _-_, _≤_, _<_}
 use native.Mathlib.Nat.{add-zero, zero-add}
 use native.Mathlib.Omega.{arith}
 use lib.Dec.{eqb}
-use lib.ListN.{length, drop, getD, drop-of-length-le, length-take, length-drop}
+use lib.ListN.{length-reverse, length, drop, getD, drop-of-length-le, length-take, length-drop}
 use lib.Seq.{drop-cons, getD-take, getD-drop}
 use borrow.Author.Tests.{eqb-true}
 use Rattle.model.specs.Occurrence.{Position, shortest}
@@ -16,13 +16,13 @@ use Rattle.model.proofs.Law.{Steps}
 use Rattle.model.proofs.Searches as Searches
 use Rattle.shift_and.specs.Bit.{bit}
 use Rattle.shift_and.specs.ForwardStep.{topBit}
+use Rattle.shift_and.specs.Automaton.{Automaton, allStates}
 use Rattle.shift_and.specs.Masks.{Encodes, admitsMask}
 use Rattle.shift_and.proofs.Digits.{none-bit}
 use Rattle.shift_and.proofs.Bridge as Bridge
 use Rattle.shift_and.proofs.Bridge.{Backward, backward-top}
-use Rattle.shift_and_step.specs.declared.Masks.{Masks}
-use Rattle.window_reader.specs.Reading.{every, stepAt, seenN}
-use Rattle.window_reader.proofs.Steps.{step-is, none-steps, unknown-steps}
+use Rattle.window_reader.specs.Reading.{stepAt, seenN}
+use Rattle.window_reader.proofs.Steps.{none-steps, unknown-steps}
 
 -- ---- the least number that passes a test
 
@@ -44,8 +44,11 @@ least-next f i k n e last c q = rw (c, q) (go (f i) refl)
     go true h = rw (h, leastFrom)
     go false h = rw (h, leastFrom)
 
-module _ (ps : List Position) (inhabited : Inhabited ps) (t : List ℕ) (m : Masks) (text : List ℕ)
-    (of : Encodes 64 (reverse ps) (λ c. getD t c 0) (m .repeats) (m .optional)) (np : m .top ≡ length ps) (w : ℕ) (fits : w + shortest ps ≤ length text) where
+module _ (ps : List Position) (inhabited : Inhabited ps) (A : Automaton) (text : List ℕ)
+    (of : Encodes A (reverse ps)) (w : ℕ) (fits : w + shortest ps ≤ length text) where
+  np : A .top ≡ length ps
+  np = of .is-top ∙ length-reverse ps
+
   -- the bytes from j on begin a string that the rule admits
   abbrev F : ℕ → Bool
   F j = isBeginning ps (drop j (windowAt ps text w))
@@ -70,18 +73,17 @@ module _ (ps : List Position) (inhabited : Inhabited ps) (t : List ℕ) (m : Mas
       subst (λ (x : List ℕ). Backward ps x d′) (sym q)
       (Searches.backward-step (reverse ps) (reverse (drop (suc j) W)) (getD text (w + j) 0) (bit d) (bit d′) s p)
 
-  read : (j d : ℕ) → j < shortest ps → P d (suc j) → P (stepAt t m text 0 d (w + j)) j
+  read : (j d : ℕ) → j < shortest ps → P d (suc j) → P (stepAt A text 0 d (w + j)) j
   read j d h p =
-      one-more j d (stepAt t m text 0 d (w + j)) h
-      (subst (λ (x : ℕ). Steps false (reverse ps) (getD text (w + j) 0) (bit d) (bit x)) (sym (step-is t m false d (getD text (w + j) 0)))
-      (Bridge.word-steps 64 (reverse ps) (λ c. getD t c 0) (m .repeats) (m .optional) of false (getD text (w + j) 0) d)) p
+      one-more j d (stepAt A text 0 d (w + j)) h
+      (Bridge.word-steps A (reverse ps) of false (getD text (w + j) 0) d) p
 
   -- the top bit
-  top : (j d : ℕ) → P d j → topBit (m .top) d ≡ F j
+  top : (j d : ℕ) → P d j → topBit (A .top) d ≡ F j
   top j d p = ap (λ (n : ℕ). topBit n d) np ∙ backward-top ps inhabited (drop j (windowAt ps text w)) d p
 
   none-top : (j : ℕ) → P 0 j → F j ≡ false
-  none-top j p = sym (top j 0 p) ∙ Bridge.top-bit (m .top) 0 ∙ none-bit (m .top)
+  none-top j p = sym (top j 0 p) ∙ Bridge.top-bit (A .top) 0 ∙ none-bit (A .top)
 
   -- once no state is left, nothing begins at an earlier place
   none-down : (k i : ℕ) → i + k ≤ shortest ps → P 0 (i + k) → P 0 i
@@ -97,23 +99,23 @@ module _ (ps : List Position) (inhabited : Inhabited ps) (t : List ℕ) (m : Mas
 
   -- what is left to be read gives the least place
   seen-from : (j d last : ℕ) → j < shortest ps → P d (suc j) → last ≡ leastFrom F (suc j) (shortest ps - suc j) (shortest ps)
-      → seenN t m text w d last j ≡ record { shift = shift ps (windowAt ps text w); hit = F 0 }
+      → seenN A text w d last j ≡ record { shift = shift ps (windowAt ps text w); hit = F 0 }
   unfolding seenN
   seen-from zero d last h p q =
-      let e : topBit (m .top) (stepAt t m text 0 d (w + 0)) ≡ F 0 = top 0 (stepAt t m text 0 d (w + 0)) (read 0 d h p) in
+      let e : topBit (A .top) (stepAt A text 0 d (w + 0)) ≡ F 0 = top 0 (stepAt A text 0 d (w + 0)) (read 0 d h p) in
       rw (q, ← e, add-zero)
-  seen-from (suc j) d last h p q = go (eqb d′ 0) refl (seen-from j d′ (cond (topBit (m .top) d′) (suc j) last) (omega arith) p′)
+  seen-from (suc j) d last h p q = go (eqb d′ 0) refl (seen-from j d′ (cond (topBit (A .top) d′) (suc j) last) (omega arith) p′)
     where
       d′ : ℕ
-      d′ = stepAt t m text 0 d (w + suc j)
+      d′ = stepAt A text 0 d (w + suc j)
 
       p′ : P d′ (suc j)
       p′ = read (suc j) d h p
 
       go : (b : Bool) → eqb d′ 0 ≡ b
-          → (cond (topBit (m .top) d′) (suc j) last ≡ leastFrom F (suc j) (shortest ps - suc j) (shortest ps)
-          → seenN t m text w d′ (cond (topBit (m .top) d′) (suc j) last) j ≡ record { shift = shift ps (windowAt ps text w); hit = F 0 })
-          → seenN t m text w d last (suc j) ≡ record { shift = shift ps (windowAt ps text w); hit = F 0 }
+          → (cond (topBit (A .top) d′) (suc j) last ≡ leastFrom F (suc j) (shortest ps - suc j) (shortest ps)
+          → seenN A text w d′ (cond (topBit (A .top) d′) (suc j) last) j ≡ record { shift = shift ps (windowAt ps text w); hit = F 0 })
+          → seenN A text w d last (suc j) ≡ record { shift = shift ps (windowAt ps text w); hit = F 0 }
       go true z ih =
           let e : d′ ≡ 0 = eqb-true d′ 0 z in
           let p0 : P 0 (suc j) = subst (λ (x : ℕ). P x (suc j)) e p′ in
@@ -130,29 +132,29 @@ module _ (ps : List Position) (inhabited : Inhabited ps) (t : List ℕ) (m : Mas
           (ih (ap (λ (x : Bool). cond x (suc j) last) (top (suc j) d′ p′)
           ∙ least-next F (suc j) (shortest ps - suc j) (shortest ps - suc (suc j)) (shortest ps) last (omega arith) q))
 
-  pub seen-means : 1 ≤ shortest ps → seenN t m text w every (shortest ps) (shortest ps - 1) ≡ record { shift = shift ps (windowAt ps text w); hit = isBeginning ps (windowAt ps text w) }
+  pub seen-means : 1 ≤ shortest ps → seenN A text w (allStates A) (shortest ps) (shortest ps - 1) ≡ record { shift = shift ps (windowAt ps text w); hit = isBeginning ps (windowAt ps text w) }
   seen-means pos = go (shortest ps - 1) (omega arith)
     where
-      go : (j : ℕ) → suc j ≡ shortest ps → seenN t m text w every (shortest ps) j ≡ record { shift = shift ps (windowAt ps text w); hit = isBeginning ps (windowAt ps text w) }
+      go : (j : ℕ) → suc j ≡ shortest ps → seenN A text w (allStates A) (shortest ps) j ≡ record { shift = shift ps (windowAt ps text w); hit = isBeginning ps (windowAt ps text w) }
       go j e =
           let z : drop (suc j) (windowAt ps text w) ≡ [] = drop-of-length-le (windowAt ps text w) {i = suc j} (omega (arith, window-length)) in
           let k : shortest ps - suc j ≡ 0 = omega arith in
-          let o : P every (suc j) =
-          subst (λ (x : List ℕ). Backward ps (reverse x) every) (sym z) (Bridge.backward-open 64 ps (λ c. getD t c 0) (m .repeats) (m .optional) of inhabited) in
-          seen-from j every (shortest ps) (omega arith) o (sym (ap (λ (x : ℕ). leastFrom F (suc j) x (shortest ps)) k))
+          let o : P (allStates A) (suc j) =
+          subst (λ (x : List ℕ). Backward ps (reverse x) (allStates A)) (sym z) (Bridge.backward-open A ps of inhabited) in
+          seen-from j (allStates A) (shortest ps) (omega arith) o (sym (ap (λ (x : ℕ). leastFrom F (suc j) x (shortest ps)) k))
 
   -- the short way: the last byte stands at no position
-  pub unknown-means : 1 ≤ shortest ps → getD t (getD text (w + shortest ps - 1) 0) 0 ≡ 0
+  pub unknown-means : 1 ≤ shortest ps → A .table (getD text (w + shortest ps - 1) 0) ≡ 0
       → (shift ps (windowAt ps text w) ≡ shortest ps) × (isBeginning ps (windowAt ps text w) ≡ false)
   unknown-means pos z = go (shortest ps - 1) (omega arith)
     where
       go : (j : ℕ) → suc j ≡ shortest ps → (shift ps (windowAt ps text w) ≡ shortest ps) × (isBeginning ps (windowAt ps text w) ≡ false)
       go j e =
           let k : drop (suc j) (windowAt ps text w) ≡ [] = drop-of-length-le (windowAt ps text w) {i = suc j} (omega (arith, window-length)) in
-          let o : P every (suc j) =
-          subst (λ (x : List ℕ). Backward ps (reverse x) every) (sym k) (Bridge.backward-open 64 ps (λ c. getD t c 0) (m .repeats) (m .optional) of inhabited) in
+          let o : P (allStates A) (suc j) =
+          subst (λ (x : List ℕ). Backward ps (reverse x) (allStates A)) (sym k) (Bridge.backward-open A ps of inhabited) in
           let i : w + j ≡ w + shortest ps - 1 = omega arith in
-          let y : admitsMask (reverse ps) (getD text (w + j) 0) ≡ 0 = sym (of .is-table (getD text (w + j) 0)) ∙ ap (λ (x : ℕ). getD t (getD text x 0) 0) i ∙ z in
-          let p0 : P 0 j = one-more j every 0 (omega arith) (unknown-steps (reverse ps) (getD text (w + j) 0) y (bit every)) o in
+          let y : admitsMask (reverse ps) (getD text (w + j) 0) ≡ 0 = sym (of .is-table (getD text (w + j) 0)) ∙ ap (λ (x : ℕ). A .table (getD text x 0)) i ∙ z in
+          let p0 : P 0 j = one-more j (allStates A) 0 (omega arith) (unknown-steps (reverse ps) (getD text (w + j) 0) y (bit (allStates A))) o in
           let c : shortest ps - 1 ≡ j + 0 = omega arith in
           (ap (λ (x : ℕ). leastFrom F 1 x (shortest ps)) c ∙ least-skip F j 1 0 (shortest ps) (λ x f g. none-before j x (omega arith) (omega arith) p0), none-before j 0 (omega arith) (omega arith) p0)

@@ -1,22 +1,14 @@
--- What the readings say where table and masks are those of a list of positions: the step is the bridge's, and no state stays none. Assumes nothing.
+-- Steps that leave no state: from none, and on a byte that stands at no position. Assumes nothing.
 use mathlib.Core.Path.{_≡_, refl, sym, ap, subst, _∙_}
 use mathlib.Core.Bool.{Bool, true, false, _&&_, _||_}
 use mathlib.Core.List.{List}
 use Prim.Native.Nat.{ℕ, suc, _-_}
-use lib.ListN.{getD}
-use Rattle.model.specs.Occurrence.{Position, oneIf}
+use Rattle.model.specs.Occurrence.{Position}
 use Rattle.model.proofs.Law.{nth, stepBit, Steps}
 use Rattle.shift_and.specs.Bit.{bit}
-use Rattle.shift_and.specs.ForwardStep.{onByte}
 use Rattle.shift_and.specs.Masks.{admitsMask}
 use Rattle.shift_and.proofs.Digits.{none-bit}
 use Rattle.shift_and.proofs.MaskLaws.{mask-bit}
-use Rattle.shift_and_step.specs.declared.Masks.{Masks}
-use Rattle.shift_and_step.specs.Stepping.{stepN}
-
-pub step-is : (t : List ℕ) (m : Masks) (k : Bool) (d c : ℕ) → stepN m (oneIf k) d (getD t c 0) ≡ onByte 64 (λ c. getD t c 0) (m .repeats) (m .optional) k d c
-unfolding stepN
-step-is t m k d c = refl
 
 none-bits : (a b r o : Bool) → ((a && false) || (b && r && false) || (o && false)) ≡ false
 none-bits true true true true = refl

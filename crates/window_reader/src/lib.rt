@@ -4,7 +4,7 @@
 ghost use mathlib.Core.Path.{_≡_};
 ghost use Prim.Native.Nat.{_+_, _≤_, _<_};
 ghost use lib.ListN.{length};
-ghost use Rattle.shift_and_step.specs.Stepping.{TableFits};
+ghost use Rattle.shift_and_step.specs.Stepping.{automatonOf, TableFits};
 ghost use Rattle.window_reader.specs.Reading.{Window, LastByteStates, Unread, WindowIs, SurelyMisses, EndIs, CountIs, WriteFine, WroteIs, RestFine, WrittenIs};
 use shift_and_step::Masks;
 
@@ -26,7 +26,7 @@ pub enum End {
 pub fn last_byte_states(reversed: &[u64], m: Masks, first: &mut [u64])
     requires { ⌜ TableFits (now reversed) m ⌝ }
     requires { ⌜ length (now first) ≡ 256 ⌝ }
-    ensures { λ r. ⌜ LastByteStates (now (reversed .entry)) m (now (first .exit)) ⌝ }
+    ensures { λ r. ⌜ LastByteStates (automatonOf (now (reversed .entry)) m) (now (first .exit)) ⌝ }
 {
     let mut c = 0;
     while c < 256 {
@@ -49,8 +49,8 @@ fn read_back(
 ) -> WindowResult
     requires { ⌜ TableFits (now reversed) m ⌝ }
     requires { ⌜ Window size w (length (now text)) ⌝ }
-    requires { ⌜ Unread (now reversed) m size (now text) w d last j ⌝ }
-    ensures { λ x. ⌜ WindowIs (now (reversed .entry)) m size (now (text .entry)) w x ⌝ }
+    requires { ⌜ Unread (automatonOf (now reversed) m) size (now text) w d last j ⌝ }
+    ensures { λ x. ⌜ WindowIs (automatonOf (now (reversed .entry)) m) size (now (text .entry)) w x ⌝ }
 {
     let mut d = d;
     let mut last = last;
@@ -91,8 +91,8 @@ pub fn window_shift(
 ) -> WindowResult
     requires { ⌜ TableFits (now reversed) m ⌝ }
     requires { ⌜ Window size w (length (now text)) ⌝ }
-    requires { ⌜ LastByteStates (now reversed) m (now first) ⌝ }
-    ensures { λ x. ⌜ WindowIs (now (reversed .entry)) m size (now (text .entry)) w x ⌝ }
+    requires { ⌜ LastByteStates (automatonOf (now reversed) m) (now first) ⌝ }
+    ensures { λ x. ⌜ WindowIs (automatonOf (now (reversed .entry)) m) size (now (text .entry)) w x ⌝ }
 {
     let j = size - 1;
     let c = byte_search::byte_index(text[w + j]);
@@ -129,9 +129,9 @@ pub fn surely_misses(
 ) -> bool
     requires { ⌜ TableFits (now reversed) m ⌝ }
     requires { ⌜ Window size w (length (now text)) ⌝ }
-    requires { ⌜ LastByteStates (now reversed) m (now first) ⌝ }
+    requires { ⌜ LastByteStates (automatonOf (now reversed) m) (now first) ⌝ }
     requires { ⌜ 2 ≤ size ⌝ }
-    ensures { λ r. ⌜ SurelyMisses (now (reversed .entry)) m size (now (text .entry)) w r ⌝ }
+    ensures { λ r. ⌜ SurelyMisses (automatonOf (now (reversed .entry)) m) size (now (text .entry)) w r ⌝ }
 {
     let j = size - 1;
     let i = j - 1;
@@ -153,7 +153,7 @@ pub fn verify(forward: &[u64], m: Masks, text: &[u8], s: usize, stop: usize) -> 
     requires { ⌜ TableFits (now forward) m ⌝ }
     requires { ⌜ s ≤ stop ⌝ }
     requires { ⌜ stop ≤ length (now text) ⌝ }
-    ensures { λ x. ⌜ EndIs (now (forward .entry)) m (now (text .entry)) s stop x ⌝ }
+    ensures { λ x. ⌜ EndIs (automatonOf (now (forward .entry)) m) (now (text .entry)) s stop x ⌝ }
 {
     let mut d = shift_and::start_state(m.optional);
     let mut e = s;
@@ -176,7 +176,7 @@ pub fn verify(forward: &[u64], m: Masks, text: &[u8], s: usize, stop: usize) -> 
 pub fn count_back(reversed: &[u64], m: Masks, text: &[u8], from: usize) -> usize
     requires { ⌜ TableFits (now reversed) m ⌝ }
     requires { ⌜ from ≤ length (now text) ⌝ }
-    ensures { λ k. ⌜ CountIs (now (reversed .entry)) m (now (text .entry)) from k ⌝ }
+    ensures { λ k. ⌜ CountIs (automatonOf (now (reversed .entry)) m) (now (text .entry)) from k ⌝ }
 {
     let mut d = shift_and::start_state(m.optional);
     let mut k = 0;
@@ -204,8 +204,8 @@ fn write_back(
     k: usize,
 )
     requires { ⌜ TableFits (now reversed) m ⌝ }
-    requires { ⌜ WriteFine (now reversed) m (now text) from (length (now starts)) first k ⌝ }
-    ensures { λ u. ⌜ WroteIs (now (reversed .entry)) m (now (text .entry)) from (now (starts .entry)) first (now (starts .exit)) ⌝ }
+    requires { ⌜ WriteFine (automatonOf (now reversed) m) (now text) from (length (now starts)) first k ⌝ }
+    ensures { λ u. ⌜ WroteIs (automatonOf (now (reversed .entry)) m) (now (text .entry)) from (now (starts .entry)) first (now (starts .exit)) ⌝ }
 {
     let mut d = shift_and::start_state(m.optional);
     let mut p = first + k;
@@ -233,7 +233,7 @@ pub fn write_rest(
 ) -> usize
     requires { ⌜ TableFits (now reversed) m ⌝ }
     requires { ⌜ RestFine (length (now text)) from (length (now starts)) first ⌝ }
-    ensures { λ k. ⌜ WrittenIs (now (reversed .entry)) m (now (text .entry)) from (now (starts .entry)) first k (now (starts .exit)) ⌝ }
+    ensures { λ k. ⌜ WrittenIs (automatonOf (now (reversed .entry)) m) (now (text .entry)) from (now (starts .entry)) first k (now (starts .exit)) ⌝ }
 {
     let k = count_back(reversed, m, text, from);
     write_back(reversed, m, text, from, starts, first, k);

@@ -13,6 +13,7 @@ use borrow.Author.Tests.{not-false}
 use Rattle.model.specs.Occurrence.{Position, shortest, consIf, isStart, starts}
 use Rattle.model.specs.WindowSearch.{windowAt, shift, windowsFrom, windows}
 use Rattle.model.proofs.Windows.{windows-next, windows-stop}
+use Rattle.shift_and.specs.Automaton.{Automaton}
 use Rattle.window_reader.specs.declared.WindowResult.{WindowResult}
 use Rattle.window_reader.specs.Reading.{WindowIs, SurelyMisses, startsBack, RestFine, WrittenIs}
 use Rattle.window_reader.proofs.Reversed.{back-means}
@@ -20,135 +21,135 @@ use Rattle.window_search.specs.declared.Rule.{Rule}
 use Rattle.window_search.specs.declared.Part.{Part}
 use Rattle.window_search.specs.declared.Tried.{Tried}
 use Rattle.window_search.specs.declared.Tried.the-variants.{Start, Empty}
-use Rattle.window_search.specs.Searching.{RuleFits, Mirrors, RuleOf, TryFits, TryMeans, TriedIs, LastByteAbsent, TriesIs, restStarts, SkippedIs, Rest, PartIs, SearchFits, SearchedIs}
+use Rattle.window_search.specs.Searching.{spare, RuleFits, Mirrors, RuleOf, TryFits, TryMeans, TriedIs, LastByteAbsent, TriesIs, restStarts, SkippedIs, Rest, PartIs, SearchFits, SearchedIs}
 use Rattle.window_search.proofs.Rests.{rest-all, rest-back, rest-move}
 use Rattle.window_search.proofs.Tries.{seen-shift, seen-missed, unknown-shift, unknown-missed}
 
 -- ---- the sequence of windows
 
-module _ (ps : List Position) (reversed : List ℕ) (rule : Rule) (text : List ℕ) (of : Mirrors ps reversed rule) (w : ℕ) where
+module _ (ps : List Position) (B : Automaton) (size : ℕ) (text : List ℕ) (of : Mirrors ps B size) (w : ℕ) where
   -- one window more, j being its shift
-  next-window : {j : ℕ} → w + rule .shortest ≤ length text → j ≡ shift ps (windowAt ps text w)
+  next-window : {j : ℕ} → w + size ≤ length text → j ≡ shift ps (windowAt ps text w)
       → length (windowsFrom (suc (length text)) ps text w) ≡ suc (length (windowsFrom (suc (length text)) ps text (w + j)))
-  next-window h q = ap length (windows-next ps (of .inhabited) (of .some) text w (omega (arith, of .size))) ∙ rw q
+  next-window h q = ap length (windows-next ps (of .inhabited) (of .some) text w (omega (arith, of .is-shortest))) ∙ rw q
 
   -- the starts from w on, by those from the next window on
-  next-starts : {j : ℕ} → w + rule .shortest ≤ length text → j ≡ shift ps (windowAt ps text w) → {b : Bool} → isStart ps text w ≡ b
+  next-starts : {j : ℕ} → w + size ≤ length text → j ≡ shift ps (windowAt ps text w) → {b : Bool} → isStart ps text w ≡ b
       → restStarts ps text w ≡ consIf b w (restStarts ps text (w + j))
-  next-starts h q e = rest-move ps (of .inhabited) (of .some) text w (omega (arith, of .size)) ∙ rw (q, e)
+  next-starts h q e = rest-move ps (of .inhabited) (of .some) text w (omega (arith, of .is-shortest)) ∙ rw (q, e)
 
-  no-window : length text < w + rule .shortest → length (windowsFrom (suc (length text)) ps text w) ≡ 0
-  no-window h = ap length (windows-stop ps (of .inhabited) (of .some) text w (omega (arith, of .size)))
+  no-window : length text < w + size → length (windowsFrom (suc (length text)) ps text w) ≡ 0
+  no-window h = ap length (windows-stop ps (of .inhabited) (of .some) text w (omega (arith, of .is-shortest)))
 
-pub record Trying (reversed : List ℕ) (rule : Rule) (text : List ℕ) (w₀ w k : ℕ) : Type 0 where
+pub record Trying (B : Automaton) (size : ℕ) (text : List ℕ) (w₀ w k : ℕ) : Type 0 where
   pub within : w ≤ length text
   pub few : k + w₀ ≤ w
-  pub rest : (ps : List Position) → Mirrors ps reversed rule
+  pub rest : (ps : List Position) → Mirrors ps B size
       → k + length (windowsFrom (suc (length text)) ps text w) ≡ length (windowsFrom (suc (length text)) ps text w₀)
 
-module _ (reversed : List ℕ) (rule : Rule) (text : List ℕ) (w₀ : ℕ) where
-  pub try-begun : w₀ ≤ length text → Trying reversed rule text w₀ w₀ 0
+module _ (B : Automaton) (size : ℕ) (text : List ℕ) (w₀ : ℕ) where
+  pub try-begun : w₀ ≤ length text → Trying B size text w₀ w₀ 0
   try-begun h = record { within = h; few = omega arith; rest = λ ps of. omega arith }
 
-  module _ {w k : ℕ} (g : Trying reversed rule text w₀ w k) where
-    pub try-turn : (s : WindowResult) → w + rule .shortest ≤ length text
-        → WindowIs reversed (rule .reversed) (rule .shortest) text w s
-        → Trying reversed rule text w₀ (w + s .shift) (k + 1)
+  module _ {w k : ℕ} (g : Trying B size text w₀ w k) where
+    pub try-turn : (s : WindowResult) → w + size ≤ length text
+        → WindowIs B size text w s
+        → Trying B size text w₀ (w + s .shift) (k + 1)
     try-turn s h i = record {
       within = omega (arith, i .short);
       few = omega (arith, i .moves, g .few);
       rest = λ ps of.
-          let n = next-window ps reversed rule text of w h (seen-shift ps reversed rule text w of h s i) in
+          let n = next-window ps B size text of w h (seen-shift ps B size text w of h s i) in
           omega (arith, g .rest ps of);
     }
 
     -- the short way: the last byte stands at no position
-    pub try-quick : {r : Bool} → w + rule .shortest ≤ length text → 1 ≤ rule .shortest → LastByteAbsent reversed (rule .shortest) text w r → r ≡ true
-        → Trying reversed rule text w₀ (w + rule .shortest) (k + 1)
+    pub try-quick : {r : Bool} → w + size ≤ length text → 1 ≤ size → LastByteAbsent (B .table) size text w r → r ≡ true
+        → Trying B size text w₀ (w + size) (k + 1)
     try-quick h m u e = record {
       within = h;
       few = omega (arith, g .few);
       rest = λ ps of.
-          let n = next-window ps reversed rule text of w h (unknown-shift ps reversed rule text w of h (u .says e)) in
+          let n = next-window ps B size text of w h (unknown-shift ps B size text w of h (u .says e)) in
           omega (arith, g .rest ps of);
     }
 
-    pub try-over : length text < w + rule .shortest → TriesIs reversed rule text w₀ k
+    pub try-over : length text < w + size → TriesIs B size text w₀ k
     try-over h = record {
       few = omega (arith, g .few, g .within);
-      means = λ ps of. let n = no-window ps reversed rule text of w h in omega (arith, g .rest ps of);
+      means = λ ps of. let n = no-window ps B size text of w h in omega (arith, g .rest ps of);
     }
 
 -- ---- windows passed over
 
-module _ (reversed : List ℕ) (rule : Rule) (text : List ℕ) (w₀ : ℕ) where
-  pub skip-begun : w₀ ≤ length text → SkippedIs reversed rule text w₀ w₀ 0
+module _ (B : Automaton) (size : ℕ) (text : List ℕ) (w₀ : ℕ) where
+  pub skip-begun : w₀ ≤ length text → SkippedIs B size text w₀ w₀ 0
   skip-begun h = record { within = h; few = omega arith; tries = λ ps of. omega arith; none = λ ps of. refl }
 
-  module _ {w k : ℕ} (g : SkippedIs reversed rule text w₀ w k) where
+  module _ {w k : ℕ} (g : SkippedIs B size text w₀ w k) where
     -- one more that is shifted by its size, where no occurrence starts
-    skip-on : w + rule .shortest ≤ length text → 1 ≤ rule .shortest
-        → ((ps : List Position) → Mirrors ps reversed rule → (rule .shortest ≡ shift ps (windowAt ps text w)) × (isStart ps text w ≡ false))
-        → SkippedIs reversed rule text w₀ (w + rule .shortest) (k + 1)
+    skip-on : w + size ≤ length text → 1 ≤ size
+        → ((ps : List Position) → Mirrors ps B size → (size ≡ shift ps (windowAt ps text w)) × (isStart ps text w ≡ false))
+        → SkippedIs B size text w₀ (w + size) (k + 1)
     skip-on h some f = record {
       within = h;
       few = omega (arith, g .few);
-      tries = λ ps of. let n = next-window ps reversed rule text of w h (f ps of .0) in omega (arith, g .tries ps of);
-      none = λ ps of. sym (next-starts ps reversed rule text of w h (f ps of .0) (f ps of .1)) ∙ g .none ps of;
+      tries = λ ps of. let n = next-window ps B size text of w h (f ps of .0) in omega (arith, g .tries ps of);
+      none = λ ps of. sym (next-starts ps B size text of w h (f ps of .0) (f ps of .1)) ∙ g .none ps of;
     }
 
     -- its last byte stands at no position
-    pub skip-unknown : {r : Bool} → rule .shortest ≤ length text - w → 1 ≤ rule .shortest → LastByteAbsent reversed (rule .shortest) text w r → not r ≡ false
-        → SkippedIs reversed rule text w₀ (w + rule .shortest) (k + 1)
+    pub skip-unknown : {r : Bool} → size ≤ length text - w → 1 ≤ size → LastByteAbsent (B .table) size text w r → not r ≡ false
+        → SkippedIs B size text w₀ (w + size) (k + 1)
     skip-unknown {r} left some u n =
-        let h : w + rule .shortest ≤ length text = omega (arith, g .within) in
+        let h : w + size ≤ length text = omega (arith, g .within) in
         let z = u .says (not-false r n) in
-        skip-on h some (λ ps of. (unknown-shift ps reversed rule text w of h z, unknown-missed ps reversed rule text w of h z))
+        skip-on h some (λ ps of. (unknown-shift ps B size text w of h z, unknown-missed ps B size text w of h z))
 
     -- its last two bytes tell it
-    pub skip-quiet : {r : Bool} → rule .shortest ≤ length text - w → 1 ≤ rule .shortest → SurelyMisses reversed (rule .reversed) (rule .shortest) text w r → not r ≡ false
-        → SkippedIs reversed rule text w₀ (w + rule .shortest) (k + 1)
+    pub skip-quiet : {r : Bool} → size ≤ length text - w → 1 ≤ size → SurelyMisses B size text w r → not r ≡ false
+        → SkippedIs B size text w₀ (w + size) (k + 1)
     skip-quiet {r} left some q n =
-        let h : w + rule .shortest ≤ length text = omega (arith, g .within) in
-        let s : WindowResult = record { shift = rule .shortest; hit = false } in
+        let h : w + size ≤ length text = omega (arith, g .within) in
+        let s : WindowResult = record { shift = size; hit = false } in
         let i = q .says (not-false r n) in
-        skip-on h some (λ ps of. (seen-shift ps reversed rule text w of h s i, seen-missed ps reversed rule text w of h s i refl))
+        skip-on h some (λ ps of. (seen-shift ps B size text w of h s i, seen-missed ps B size text w of h s i refl))
 
 -- ---- the windows with their verification
 
-pub record SearchProgress (forward reversed : List ℕ) (rule : Rule) (text l₀ l : List ℕ) (w count tried spent : ℕ) : Type 0 where
+pub record SearchProgress (F B : Automaton) (size : ℕ) (text l₀ l : List ℕ) (w count tried spent : ℕ) : Type 0 where
   pub within : w ≤ length text
   pub few : count ≤ w
   pub tries : tried ≤ w
-  pub budget : spent ≤ 2 * w + 4096
+  pub budget : spent ≤ 2 * w + spare
   pub long : length l ≡ length l₀
-  pub rest : (ps : List Position) → RuleOf ps forward reversed rule → Rest ps text l₀ w count tried l
+  pub rest : (ps : List Position) → RuleOf ps F B size → Rest ps text l₀ w count tried l
 
 pub rule-some : {forward reversed first : List ℕ} {rule : Rule} → RuleFits forward reversed first rule → 1 ≤ rule .shortest
 rule-some f = f .backs .some
 
 -- what an answer says of the shift
-module _ {forward reversed : List ℕ} {rule : Rule} {text : List ℕ} {w : ℕ} {x : Tried} (i : TriedIs forward reversed rule text w x) where
-  start-bounds : {j s : ℕ} → x ≡ Start j s → (1 ≤ j) × (j ≤ rule .shortest) × (s ≤ 2 * w + 4096)
-  start-bounds q = subst (TryFits (rule .shortest) w) q (i .fits)
+module _ {F B : Automaton} {size : ℕ} {text : List ℕ} {w : ℕ} {x : Tried} (i : TriedIs F B size text w x) where
+  start-bounds : {j s : ℕ} → x ≡ Start j s → (1 ≤ j) × (j ≤ size) × (s ≤ 2 * w + spare)
+  start-bounds q = subst (TryFits size w) q (i .fits)
 
-  empty-bounds : {j s : ℕ} → x ≡ Empty j s → (1 ≤ j) × (j ≤ rule .shortest) × (s ≤ 2 * w + 4096)
-  empty-bounds q = subst (TryFits (rule .shortest) w) q (i .fits)
+  empty-bounds : {j s : ℕ} → x ≡ Empty j s → (1 ≤ j) × (j ≤ size) × (s ≤ 2 * w + spare)
+  empty-bounds q = subst (TryFits size w) q (i .fits)
 
-  pub start-short : {j s : ℕ} → x ≡ Start j s → j ≤ rule .shortest
+  pub start-short : {j s : ℕ} → x ≡ Start j s → j ≤ size
   start-short q = start-bounds q .1
 
-  pub empty-short : {j s : ℕ} → x ≡ Empty j s → j ≤ rule .shortest
+  pub empty-short : {j s : ℕ} → x ≡ Empty j s → j ≤ size
   empty-short q = empty-bounds q .1
 
-  pub start-less : {j s : ℕ} → x ≡ Start j s → 1 ≤ rule .shortest → w + rule .shortest ≤ length text → length text - (w + j) < length text - w
+  pub start-less : {j s : ℕ} → x ≡ Start j s → 1 ≤ size → w + size ≤ length text → length text - (w + j) < length text - w
   start-less q m h = let b = start-bounds q .0 in omega arith
 
-  pub empty-less : {j s : ℕ} → x ≡ Empty j s → 1 ≤ rule .shortest → w + rule .shortest ≤ length text → length text - (w + j) < length text - w
+  pub empty-less : {j s : ℕ} → x ≡ Empty j s → 1 ≤ size → w + size ≤ length text → length text - (w + j) < length text - w
   empty-less q m h = let b = empty-bounds q .0 in omega arith
 
-module _ (forward reversed : List ℕ) (rule : Rule) (text l₀ : List ℕ) where
-  pub begun : SearchProgress forward reversed rule text l₀ l₀ 0 0 0 0
+module _ (F B : Automaton) (size : ℕ) (text l₀ : List ℕ) where
+  pub begun : SearchProgress F B size text l₀ l₀ 0 0 0 0
   begun = record {
     within = omega arith;
     few = omega arith;
@@ -158,10 +159,10 @@ module _ (forward reversed : List ℕ) (rule : Rule) (text l₀ : List ℕ) wher
     rest = λ ps of. record { starts-left = rw (rest-all ps text) (zero-add _); windows-left = zero-add _; list = rw (rest-all ps text) };
   }
 
-  module _ {l : List ℕ} {w count tried spent : ℕ} (g : SearchProgress forward reversed rule text l₀ l w count tried spent) where
-    module _ {x : Tried} (h : w + rule .shortest ≤ length text) (i : TriedIs forward reversed rule text w x) where
+  module _ {l : List ℕ} {w count tried spent : ℕ} (g : SearchProgress F B size text l₀ l w count tried spent) where
+    module _ {x : Tried} (h : w + size ≤ length text) (i : TriedIs F B size text w x) where
       -- an occurrence starts at w
-      pub started : {j s : ℕ} → x ≡ Start j s → SearchProgress forward reversed rule text l₀ (set l count w) (w + j) (count + 1) (tried + 1) s
+      pub started : {j s : ℕ} → x ≡ Start j s → SearchProgress F B size text l₀ (set l count w) (w + j) (count + 1) (tried + 1) s
       started {j} {s} q =
           let b = start-bounds i q in
           let b0 = b .0 in
@@ -175,8 +176,8 @@ module _ (forward reversed : List ℕ) (rule : Rule) (text l₀ : List ℕ) wher
             long = length-set l count w ∙ g .long;
             rest = λ ps of.
                 let k = subst (TryMeans ps text w) q (i .means ps of) in
-                let v = next-starts ps reversed rule text (of .mirrors) w h (k .0) (k .1) in
-                let n = next-window ps reversed rule text (of .mirrors) w h (k .0) in
+                let v = next-starts ps B size text (of .mirrors) w h (k .0) (k .1) in
+                let n = next-window ps B size text (of .mirrors) w h (k .0) in
                 let r = g .rest ps of in
                 record {
                   starts-left = omega (arith, ap length v, r .starts-left);
@@ -186,7 +187,7 @@ module _ (forward reversed : List ℕ) (rule : Rule) (text l₀ : List ℕ) wher
           }
 
       -- none does
-      pub passed : {j s : ℕ} → x ≡ Empty j s → SearchProgress forward reversed rule text l₀ l (w + j) count (tried + 1) s
+      pub passed : {j s : ℕ} → x ≡ Empty j s → SearchProgress F B size text l₀ l (w + j) count (tried + 1) s
       passed {j} {s} q =
           let b = empty-bounds i q in
           let b0 = b .0 in
@@ -200,8 +201,8 @@ module _ (forward reversed : List ℕ) (rule : Rule) (text l₀ : List ℕ) wher
             long = g .long;
             rest = λ ps of.
                 let k = subst (TryMeans ps text w) q (i .means ps of) in
-                let v = next-starts ps reversed rule text (of .mirrors) w h (k .0) (k .1) in
-                let n = next-window ps reversed rule text (of .mirrors) w h (k .0) in
+                let v = next-starts ps B size text (of .mirrors) w h (k .0) (k .1) in
+                let n = next-window ps B size text (of .mirrors) w h (k .0) in
                 let r = g .rest ps of in
                 record {
                   starts-left = omega (arith, ap length v, r .starts-left);
@@ -211,7 +212,7 @@ module _ (forward reversed : List ℕ) (rule : Rule) (text l₀ : List ℕ) wher
           }
 
     -- windows passed over
-    pub windows-skipped : {w′ k : ℕ} → SkippedIs reversed rule text w w′ k → SearchProgress forward reversed rule text l₀ l w′ count (tried + k) spent
+    pub windows-skipped : {w′ k : ℕ} → SkippedIs B size text w w′ k → SearchProgress F B size text l₀ l w′ count (tried + k) spent
     windows-skipped {w′} {k} s = record {
       within = s .within;
       few = omega (arith, g .few, s .few);
@@ -229,20 +230,20 @@ module _ (forward reversed : List ℕ) (rule : Rule) (text l₀ : List ℕ) wher
     }
 
     -- the list has an entry for a start at w
-    pub has-entry : {first : List ℕ} → RuleFits forward reversed first rule → w + rule .shortest ≤ length text → length text ≤ length l₀ → count < length l
-    has-entry f h room = let s = f .backs .some in omega (arith, g .few, g .long)
+    pub has-entry : 1 ≤ size → w + size ≤ length text → length text ≤ length l₀ → count < length l
+    has-entry some h room = omega (arith, g .few, g .long)
 
-    pub halted : PartIs forward reversed rule text l₀ (record { next = w; count = count; windows = tried }) l
+    pub halted : PartIs F B size text l₀ (record { next = w; count = count; windows = tried }) l
     halted = record { within = g .within; few = g .few; tries = g .tries; long = g .long; rest = g .rest }
 
 -- ---- the end of a search
 
-module _ (forward reversed : List ℕ) (rule : Rule) (text l₀ : List ℕ) (f : SearchFits (length text) (length l₀)) (p : Part) (l : List ℕ) (i : PartIs forward reversed rule text l₀ p l) where
+module _ (F B : Automaton) (size : ℕ) (text l₀ : List ℕ) (f : SearchFits (length text) (length l₀)) (p : Part) (l : List ℕ) (i : PartIs F B size text l₀ p l) where
   pub rest-fits : RestFine (length text) (p .next) (length l) (p .count)
   rest-fits = record { from-within = i .within; small = f .small; ordered = i .few; room = omega (arith, f .room, i .long) }
 
-  pub finished : {k z : ℕ} {l′ : List ℕ} → WrittenIs reversed (rule .reversed) text (p .next) l (p .count) k l′ → TriesIs reversed rule text (p .next) z
-      → SearchedIs forward reversed rule text l₀ (record { count = p .count + k; windows = p .windows + z }) l′
+  pub finished : {k z : ℕ} {l′ : List ℕ} → WrittenIs B text (p .next) l (p .count) k l′ → TriesIs B size text (p .next) z
+      → SearchedIs F B size text l₀ (record { count = p .count + k; windows = p .windows + z }) l′
   finished {k} {z} {l′} o t = record {
     few = omega (arith, i .few, o .counted .few);
     tries = omega (arith, i .tries, t .few);
@@ -250,8 +251,8 @@ module _ (forward reversed : List ℕ) (rule : Rule) (text l₀ : List ℕ) (f :
     means = λ ps of.
         let m = of .mirrors in
         let r = i .rest ps of in
-        let b : startsBack reversed (rule .reversed) text (p .next) ≡ restStarts ps text (p .next) =
-        back-means ps reversed (rule .reversed) text (m .backward) (m .top) (p .next) (i .within)
+        let b : startsBack B text (p .next) ≡ restStarts ps text (p .next) =
+        back-means ps B text (m .backward) (p .next) (i .within)
         ∙ rest-back ps (m .inhabited) (m .some) text (p .next) (i .within) in
         let n : p .count + k ≡ length (starts ps text) = omega (arith, o .counted .is, ap length b, r .starts-left) in
         record {

@@ -13,18 +13,17 @@ use Rattle.model.specs.WindowSearch.{isBeginning, windowAt, shift}
 use Rattle.model.proofs.Truth.{T-true, T-false}
 use Rattle.model.proofs.Decided.{start-decided}
 use Rattle.model.proofs.Windows.{occurs-length, starts-are-verified}
+use Rattle.shift_and.specs.Automaton.{Automaton}
 use Rattle.shift_and.specs.Masks.{Encodes}
-use Rattle.shift_and_step.specs.declared.Masks.{Masks}
 use Rattle.window_reader.specs.declared.WindowResult.{WindowResult}
 use Rattle.window_reader.specs.declared.End.{End}
 use Rattle.window_reader.specs.declared.End.the-variants.{At, Dead, Open}
 use Rattle.window_reader.specs.Reading.{Within, WindowIs, EndIs}
 use Rattle.window_reader.proofs.Shifts.{seen-means, unknown-means}
 use Rattle.window_reader.proofs.Ends.{Means, opened-means}
-use Rattle.window_search.specs.declared.Rule.{Rule}
 use Rattle.window_search.specs.declared.Tried.{Tried}
 use Rattle.window_search.specs.declared.Tried.the-variants.{Start, Empty, Spent}
-use Rattle.window_search.specs.Searching.{Mirrors, Spends, Allowed, VerifyFits, VerifyMeans, VerifiedIs, TryFits, TryMeans, TriedIs, LastByteAbsent}
+use Rattle.window_search.specs.Searching.{spare, Mirrors, Spends, Allowed, VerifyFits, VerifyMeans, VerifiedIs, TryFits, TryMeans, TriedIs, LastByteAbsent}
 
 -- ---- verification
 
@@ -39,7 +38,7 @@ pub not-start : (ps : List Position) (text : List ℕ) (w : ℕ) → 1 ≤ short
 not-start ps text w h none =
     T-false (isStart ps text w) (λ t. let s = start-decided ps text w .0 t in none (s .0) (ends-after ps text w (s .0) h (s .1)) (s .1))
 
-module _ {t : List ℕ} {m : Masks} {text : List ℕ} {w stop : ℕ} {x : End} (i : EndIs t m text w stop x) where
+module _ {A : Automaton} {text : List ℕ} {w stop : ℕ} {x : End} (i : EndIs A text w stop x) where
   at-within : {e : ℕ} → x ≡ At e → (w < e) × (e ≤ stop)
   at-within q = subst (Within w stop) q (i .within)
 
@@ -56,49 +55,49 @@ module _ {t : List ℕ} {m : Masks} {text : List ℕ} {w stop : ℕ} {x : End} (
   dead-low q = omega (arith, dead-within q)
 
   module _ {len spent : ℕ} (al : Allowed len w spent stop) where
-    pub at-sum : {e : ℕ} → x ≡ At e → spent + (e - w) ≤ 2 * w + 4096
+    pub at-sum : {e : ℕ} → x ≡ At e → spent + (e - w) ≤ 2 * w + spare
     at-sum q = omega (arith, at-within q, al .budget)
 
-    pub dead-sum : {e : ℕ} → x ≡ Dead e → spent + (e - w) ≤ 2 * w + 4096
+    pub dead-sum : {e : ℕ} → x ≡ Dead e → spent + (e - w) ≤ 2 * w + spare
     dead-sum q = omega (arith, dead-within q, al .budget)
 
   -- what it means
-  pub end-means : (ps : List Position) → Encodes 64 ps (λ c. getD t c 0) (m .repeats) (m .optional) → m .top ≡ length ps → w ≤ stop → stop ≤ length text → Means ps text w w (stop - w) x
-  end-means ps of np h l = rw (i .is) (opened-means ps t m text of np w (stop - w) (omega arith))
+  pub end-means : (ps : List Position) → Encodes A ps → w ≤ stop → stop ≤ length text → Means ps text w w (stop - w) x
+  end-means ps of h l = rw (i .is) (opened-means ps A text of w (stop - w) (omega arith))
 
-module _ (t : List ℕ) (m : Masks) (text : List ℕ) (w spent j stop : ℕ) (al : Allowed (length text) w spent stop) (x : End)
-    (i : EndIs t m text w stop x) where
-  meaning : (ps : List Position) → Encodes 64 ps (λ c. getD t c 0) (m .repeats) (m .optional) → m .top ≡ length ps → (y : End) → x ≡ y → Means ps text w w (stop - w) y
-  meaning ps of np y q = subst (Means ps text w w (stop - w)) q (end-means i ps of np (al .from) (al .inside))
+module _ (A : Automaton) (text : List ℕ) (w spent j stop : ℕ) (al : Allowed (length text) w spent stop) (x : End)
+    (i : EndIs A text w stop x) where
+  meaning : (ps : List Position) → Encodes A ps → (y : End) → x ≡ y → Means ps text w w (stop - w) y
+  meaning ps of y q = subst (Means ps text w w (stop - w)) q (end-means i ps of (al .from) (al .inside))
 
-  pub checked-at : {e : ℕ} → x ≡ At e → VerifiedIs t m text w j (Start j (spent + (e - w)))
+  pub checked-at : {e : ℕ} → x ≡ At e → VerifiedIs A text w j (Start j (spent + (e - w)))
   checked-at {e} q = record {
     fits = (refl, at-sum i al q);
-    means = λ ps of np some. T-true (isStart ps text w) (start-decided ps text w .1 (e, meaning ps of np (At e) q .1));
+    means = λ ps of some. T-true (isStart ps text w) (start-decided ps text w .1 (e, meaning ps of (At e) q .1));
   }
 
-  pub checked-dead : {e : ℕ} → x ≡ Dead e → VerifiedIs t m text w j (Empty j (spent + (e - w)))
+  pub checked-dead : {e : ℕ} → x ≡ Dead e → VerifiedIs A text w j (Empty j (spent + (e - w)))
   checked-dead {e} q = record {
     fits = (refl, dead-sum i al q);
-    means = λ ps of np some. not-start ps text w some (meaning ps of np (Dead e) q);
+    means = λ ps of some. not-start ps text w some (meaning ps of (Dead e) q);
   }
 
   -- all the bytes have been read
-  pub checked-over : x ≡ Open → length text ≤ stop → VerifiedIs t m text w j (Empty j (spent + (stop - w)))
+  pub checked-over : x ≡ Open → length text ≤ stop → VerifiedIs A text w j (Empty j (spent + (stop - w)))
   checked-over q h = record {
     fits = (refl, omega (arith, al .budget));
-    means = λ ps of np some.
-        not-start ps text w some (λ y l o. let k = o .inside in let f = al .from in meaning ps of np Open q y l (omega arith) o);
+    means = λ ps of some.
+        not-start ps text w some (λ y l o. let k = o .inside in let f = al .from in meaning ps of Open q y l (omega arith) o);
   }
 
 -- ---- the window
 
-module _ (ps : List Position) (reversed : List ℕ) (rule : Rule) (text : List ℕ) (w : ℕ) (of : Mirrors ps reversed rule)
-    (fits : w + rule .shortest ≤ length text) (s : WindowResult) (i : WindowIs reversed (rule .reversed) (rule .shortest) text w s) where
+module _ (ps : List Position) (B : Automaton) (size : ℕ) (text : List ℕ) (w : ℕ) (of : Mirrors ps B size)
+    (fits : w + size ≤ length text) (s : WindowResult) (i : WindowIs B size text w s) where
   seen-is : s ≡ record { shift = shift ps (windowAt ps text w); hit = isBeginning ps (windowAt ps text w) }
   seen-is =
-      let m : rule .shortest ≡ shortest ps = of .size in
-      i .is ∙ rw m (seen-means ps (of .inhabited) reversed (rule .reversed) text (of .backward) (of .top) w (omega arith) (of .some))
+      let m : size ≡ shortest ps = of .is-shortest in
+      i .is ∙ rw m (seen-means ps (of .inhabited) B text (of .backward) w (omega arith) (of .some))
 
   pub seen-shift : s .shift ≡ shift ps (windowAt ps text w)
   seen-shift = rw seen-is
@@ -112,21 +111,21 @@ module _ (ps : List Position) (reversed : List ℕ) (rule : Rule) (text : List �
       T-false (isStart ps text w) (λ t.
       subst (λ (b : Bool). T b) (sym seen-hit ∙ q) (starts-are-verified ps (of .inhabited) (of .some) text w (start-decided ps text w .0 t)))
 
-module _ (forward reversed : List ℕ) (rule : Rule) (text : List ℕ) (w : ℕ) (fits : w + rule .shortest ≤ length text) (s : WindowResult)
-    (i : WindowIs reversed (rule .reversed) (rule .shortest) text w s) where
-  pub missed : {spent : ℕ} → s .hit ≡ false → Spends (length text) w spent → TriedIs forward reversed rule text w (Empty (s .shift) spent)
+module _ (F B : Automaton) (size : ℕ) (text : List ℕ) (w : ℕ) (fits : w + size ≤ length text) (s : WindowResult)
+    (i : WindowIs B size text w s) where
+  pub missed : {spent : ℕ} → s .hit ≡ false → Spends (length text) w spent → TriedIs F B size text w (Empty (s .shift) spent)
   missed q b = record {
     fits = (i .moves, i .short, b .budget);
-    means = λ ps of. (seen-shift ps reversed rule text w (of .mirrors) fits s i, seen-missed ps reversed rule text w (of .mirrors) fits s i q);
+    means = λ ps of. (seen-shift ps B size text w (of .mirrors) fits s i, seen-missed ps B size text w (of .mirrors) fits s i q);
   }
 
-  pub hit : {x : Tried} → VerifiedIs forward (rule .forward) text w (s .shift) x → TriedIs forward reversed rule text w x
+  pub hit : {x : Tried} → VerifiedIs F text w (s .shift) x → TriedIs F B size text w x
   hit {x} k = record {
     fits = bounds x (k .fits);
-    means = λ ps of. both ps x (seen-shift ps reversed rule text w (of .mirrors) fits s i) (k .fits) (k .means ps (of .onward) (of .top) (of .mirrors .some));
+    means = λ ps of. both ps x (seen-shift ps B size text w (of .mirrors) fits s i) (k .fits) (k .means ps (of .onward) (of .mirrors .some));
   }
     where
-      bounds : (x : Tried) → VerifyFits w (s .shift) x → TryFits (rule .shortest) w x
+      bounds : (x : Tried) → VerifyFits w (s .shift) x → TryFits size w x
       bounds (Start j n) f = let e = f .0 in let b = f .1 in (omega (arith, i .moves), omega (arith, i .short), b)
       bounds (Empty j n) f = let e = f .0 in let b = f .1 in (omega (arith, i .moves), omega (arith, i .short), b)
       bounds Spent f = tt
@@ -138,20 +137,20 @@ module _ (forward reversed : List ℕ) (rule : Rule) (text : List ℕ) (w : ℕ)
 
 -- ---- `last_byte_absent`
 
-pub unknown-is : (reversed : List ℕ) (size : ℕ) (text : List ℕ) (w b : ℕ) → b ≡ getD text (w + size - 1) 0 → LastByteAbsent reversed size text w (eqb (getD reversed b 0) 0)
+pub unknown-is : (reversed : List ℕ) (size : ℕ) (text : List ℕ) (w b : ℕ) → b ≡ getD text (w + size - 1) 0 → LastByteAbsent (λ c. getD reversed c 0) size text w (eqb (getD reversed b 0) 0)
 unknown-is reversed size text w b e = record { says = λ t. rw e at (eqb-true (getD reversed b 0) 0 t) }
 
 -- the last byte stands at no position
-module _ (ps : List Position) (reversed : List ℕ) (rule : Rule) (text : List ℕ) (w : ℕ) (of : Mirrors ps reversed rule) (fits : w + rule .shortest ≤ length text)
-    (z : getD reversed (getD text (w + rule .shortest - 1) 0) 0 ≡ 0) where
+module _ (ps : List Position) (B : Automaton) (size : ℕ) (text : List ℕ) (w : ℕ) (of : Mirrors ps B size) (fits : w + size ≤ length text)
+    (z : B .table (getD text (w + size - 1) 0) ≡ 0) where
   unknown : (shift ps (windowAt ps text w) ≡ shortest ps) × (isBeginning ps (windowAt ps text w) ≡ false)
   unknown =
-      let m : rule .shortest ≡ shortest ps = of .size in
-      let z′ : getD reversed (getD text (w + shortest ps - 1) 0) 0 ≡ 0 = rw m at z in
-      unknown-means ps (of .inhabited) reversed (rule .reversed) text (of .backward) (of .top) w (omega arith) (of .some) z′
+      let m : size ≡ shortest ps = of .is-shortest in
+      let z′ : B .table (getD text (w + shortest ps - 1) 0) ≡ 0 = rw m at z in
+      unknown-means ps (of .inhabited) B text (of .backward) w (omega arith) (of .some) z′
 
-  pub unknown-shift : rule .shortest ≡ shift ps (windowAt ps text w)
-  unknown-shift = of .size ∙ sym (unknown .0)
+  pub unknown-shift : size ≡ shift ps (windowAt ps text w)
+  unknown-shift = of .is-shortest ∙ sym (unknown .0)
 
   pub unknown-missed : isStart ps text w ≡ false
   unknown-missed =

@@ -3,10 +3,11 @@
 // readings of the text backwards. Starts, their order and the count of windows are the same either way.
 ghost use mathlib.Core.Path.{_≡_};
 ghost use Prim.Native.Nat.{_+_, _*_, _≤_, _<_, _^_};
-ghost use lib.ListN.{length};
-ghost use Rattle.shift_and_step.specs.Stepping.{TableFits};
+ghost use lib.ListN.{length, getD};
+ghost use Rattle.shift_and_step.specs.Stepping.{automatonOf, TableFits};
 ghost use Rattle.window_reader.specs.Reading.{Window};
-ghost use Rattle.window_search.specs.Searching.{BackFits, RuleFits, Spends, Allowed, VerifiedIs, TriedIs, LastByteAbsent, TriesIs, SkippedIs, PartIs, SearchFits, SearchedIs, SpanIs};
+ghost use Rattle.window_search.specs.Searching.{onwardOf, backwardOf, BackFits, RuleFits, Spends, Allowed, VerifiedIs, TriedIs, LastByteAbsent, TriesIs, SkippedIs, PartIs, SearchFits, SearchedIs, SpanIs};
+use answers::Span;
 use shift_and_step::Masks;
 use window_reader::End;
 
@@ -38,19 +39,15 @@ pub struct Found {
     pub windows: usize,
 }
 
-// A part of a text, as its two places.
-#[repr(C)]
-pub struct Span {
-    pub from: usize,
-    pub to: usize,
-}
+// What verifying may read beyond twice the way to a window.
+const SPARE: usize = 4096;
 
-// How far a verification from w may read: all verifying up to window w reads at most 2 w + 4096 bytes.
+// How far a verification from w may read: all verifying up to window w reads at most 2 w + SPARE bytes.
 fn allowed(len: usize, w: usize, spent: usize) -> usize
     requires { ⌜ Spends len w spent ⌝ }
     ensures { λ r. ⌜ Allowed len w spent r ⌝ }
 {
-    let far = 3 * w + 4096 - spent;
+    let far = 3 * w + SPARE - spent;
     if far < len {
         return far;
     }
@@ -68,7 +65,7 @@ fn verify_within_budget(
 ) -> Tried
     requires { ⌜ TableFits (now forward) m ⌝ }
     requires { ⌜ Spends (length (now text)) w spent ⌝ }
-    ensures { λ x. ⌜ VerifiedIs (now (forward .entry)) m (now (text .entry)) w shift x ⌝ }
+    ensures { λ x. ⌜ VerifiedIs (automatonOf (now (forward .entry)) m) (now (text .entry)) w shift x ⌝ }
 {
     let stop = allowed(text.len(), w, spent);
     let end = window_reader::verify(forward, m, text, w, stop);
@@ -104,7 +101,7 @@ fn try_window(
     requires { ⌜ RuleFits (now forward) (now reversed) (now first) rule ⌝ }
     requires { ⌜ w + rule .shortest ≤ length (now text) ⌝ }
     requires { ⌜ Spends (length (now text)) w spent ⌝ }
-    ensures { λ x. ⌜ TriedIs (now (forward .entry)) (now (reversed .entry)) rule (now (text .entry)) w x ⌝ }
+    ensures { λ x. ⌜ TriedIs (onwardOf (now (forward .entry)) rule) (backwardOf (now (reversed .entry)) rule) (rule .shortest) (now (text .entry)) w x ⌝ }
 {
     let back = rule.reversed;
     let seen = window_reader::window_shift(reversed, first, back, rule.shortest, text, w);
@@ -119,7 +116,7 @@ fn try_window(
 fn last_byte_absent(reversed: &[u64], size: usize, text: &[u8], w: usize) -> bool
     requires { ⌜ length (now reversed) ≡ 256 ⌝ }
     requires { ⌜ Window size w (length (now text)) ⌝ }
-    ensures { λ r. ⌜ LastByteAbsent (now (reversed .entry)) size (now (text .entry)) w r ⌝ }
+    ensures { λ r. ⌜ LastByteAbsent (λ c. getD (now (reversed .entry)) c 0) size (now (text .entry)) w r ⌝ }
 {
     let last = byte_search::byte_index(text[w + size - 1]);
     reversed[last] == 0
@@ -130,7 +127,7 @@ fn count_windows(reversed: &[u64], first: &[u64], rule: Rule, text: &[u8], w: us
     requires { ⌜ BackFits (now reversed) (now first) rule ⌝ }
     requires { ⌜ w ≤ length (now text) ⌝ }
     requires { ⌜ length (now text) < 2 ^ 32 ⌝ }
-    ensures { λ k. ⌜ TriesIs (now (reversed .entry)) rule (now (text .entry)) w k ⌝ }
+    ensures { λ k. ⌜ TriesIs (backwardOf (now (reversed .entry)) rule) (rule .shortest) (now (text .entry)) w k ⌝ }
 {
     let mut w = w;
     let mut k = 0;
@@ -164,7 +161,7 @@ fn skip_windows_by_last(
 ) -> Skipped
     requires { ⌜ BackFits (now reversed) (now first) rule ⌝ }
     requires { ⌜ w ≤ length (now text) ⌝ }
-    ensures { λ r. ⌜ SkippedIs (now (reversed .entry)) rule (now (text .entry)) w (r .next) (r .windows) ⌝ }
+    ensures { λ r. ⌜ SkippedIs (backwardOf (now (reversed .entry)) rule) (rule .shortest) (now (text .entry)) w (r .next) (r .windows) ⌝ }
 {
     let mut w = w;
     let mut k = 0;
@@ -195,7 +192,7 @@ fn skip_windows_by_two(
     requires { ⌜ BackFits (now reversed) (now first) rule ⌝ }
     requires { ⌜ 2 ≤ rule .shortest ⌝ }
     requires { ⌜ w ≤ length (now text) ⌝ }
-    ensures { λ r. ⌜ SkippedIs (now (reversed .entry)) rule (now (text .entry)) w (r .next) (r .windows) ⌝ }
+    ensures { λ r. ⌜ SkippedIs (backwardOf (now (reversed .entry)) rule) (rule .shortest) (now (text .entry)) w (r .next) (r .windows) ⌝ }
 {
     let mut w = w;
     let mut k = 0;
@@ -223,7 +220,7 @@ const TWO_PAY: usize = 9;
 fn skip_windows(reversed: &[u64], first: &[u64], rule: Rule, text: &[u8], w: usize) -> Skipped
     requires { ⌜ BackFits (now reversed) (now first) rule ⌝ }
     requires { ⌜ w ≤ length (now text) ⌝ }
-    ensures { λ r. ⌜ SkippedIs (now (reversed .entry)) rule (now (text .entry)) w (r .next) (r .windows) ⌝ }
+    ensures { λ r. ⌜ SkippedIs (backwardOf (now (reversed .entry)) rule) (rule .shortest) (now (text .entry)) w (r .next) (r .windows) ⌝ }
 {
     if TWO_PAY <= rule.shortest {
         return skip_windows_by_two(reversed, first, rule, text, w);
@@ -247,7 +244,7 @@ fn verify_windows(
     requires { ⌜ RuleFits (now forward) (now reversed) (now first) rule ⌝ }
     requires { ⌜ length (now text) < 2 ^ 32 ⌝ }
     requires { ⌜ length (now text) ≤ length (now starts) ⌝ }
-    ensures { λ p. ⌜ PartIs (now (forward .entry)) (now (reversed .entry)) rule (now (text .entry)) (now (starts .entry)) p (now (starts .exit)) ⌝ }
+    ensures { λ p. ⌜ PartIs (onwardOf (now (forward .entry)) rule) (backwardOf (now (reversed .entry)) rule) (rule .shortest) (now (text .entry)) (now (starts .entry)) p (now (starts .exit)) ⌝ }
 {
     let mut w = 0;
     let mut count = 0;
@@ -303,7 +300,7 @@ pub fn search_tables(
 ) -> Found
     requires { ⌜ RuleFits (now forward) (now reversed) (now first) rule ⌝ }
     requires { ⌜ SearchFits (length (now text)) (length (now starts)) ⌝ }
-    ensures { λ r. ⌜ SearchedIs (now (forward .entry)) (now (reversed .entry)) rule (now (text .entry)) (now (starts .entry)) r (now (starts .exit)) ⌝ }
+    ensures { λ r. ⌜ SearchedIs (onwardOf (now (forward .entry)) rule) (backwardOf (now (reversed .entry)) rule) (rule .shortest) (now (text .entry)) (now (starts .entry)) r (now (starts .exit)) ⌝ }
 {
     let p = verify_windows(forward, reversed, first, rule, text, starts);
     let back = rule.reversed;
@@ -322,7 +319,7 @@ pub fn search_tables(
 pub fn part_from(forward: &[u64], m: Masks, text: &[u8], s: usize) -> Span
     requires { ⌜ TableFits (now forward) m ⌝ }
     requires { ⌜ s ≤ length (now text) ⌝ }
-    ensures { λ r. ⌜ SpanIs (now (forward .entry)) m (now (text .entry)) s r ⌝ }
+    ensures { λ r. ⌜ SpanIs (automatonOf (now (forward .entry)) m) (now (text .entry)) s r ⌝ }
 {
     let len = text.len();
     let end = window_reader::verify(forward, m, text, s, len);

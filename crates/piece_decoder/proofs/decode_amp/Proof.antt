@@ -1,5 +1,5 @@
 -- `piece_decoder::decode_amp` meets its contract.
-use Rattle.piece_decoder.proofs.ChunkLaws.{code-fits, code-after, code-end, token-decoded, token-literal, token-incomplete}
+use Rattle.piece_decoder.proofs.TokenLaws.{code-fits, code-after, code-end, token-decoded, token-literal, token-incomplete}
 use borrow.Author.Needs.{needs}
 use Rattle.piece_decoder.proofs.decode_amp.Statement.{statement}
 use Rattle.piece_decoder.proofs.decode_amp.Tie as tie
@@ -46,11 +46,11 @@ returns c = search token-decoded
 enum-told : tie.Need-enum-told
 enum-told c = search needs
 
-shared-slice-read-chunk : tie.Need-shared-slice-read-chunk
-shared-slice-read-chunk c = search needs
+shared-slice-read-out : tie.Need-shared-slice-read-out
+shared-slice-read-out c = search needs
 
-slice-write-chunk : tie.Need-slice-write-chunk
-slice-write-chunk c = search needs
+slice-write-out : tie.Need-slice-write-out
+slice-write-out c = search needs
 
 add-after-2 : tie.Need-add-after-2
 add-after-2 c = search needs
@@ -88,8 +88,8 @@ decode-amp-spec =
     same-length
     returns
     enum-told
-    shared-slice-read-chunk
-    slice-write-chunk
+    shared-slice-read-out
+    slice-write-out
     add-after-2
     add-end-2
     same-length-2

@@ -1,52 +1,50 @@
 -- `piece_decoder::decode_chunk` meets its contract.
-use Prim.Native.Nat.{_-_}
-use lib.ListN.{length}
-use Rattle.piece_decoder.proofs.ChunkLaws.{Writing, begun, turn, less, stopped, over}
+use Rattle.piece_decoder.proofs.ChunkLaws.{part-more, part-last}
 use borrow.Author.Needs.{needs}
 use Rattle.piece_decoder.proofs.decode_chunk.Statement.{statement}
 use Rattle.piece_decoder.proofs.decode_chunk.Tie as tie
 
-abbrev Inv-loop : tie.InvT-loop
-Inv-loop piece room₀ i₀ at₀ room i at = Writing piece room₀ room i at
+part-end-requires : tie.Need-part-end-requires
+part-end-requires c κs = search needs
 
-abbrev μ-loop : tie.MeasureT-loop
-μ-loop piece room₀ i₀ at₀ room i at = length piece - i
+sub-decode-tokens : tie.Need-sub-decode-tokens
+sub-decode-tokens c = search needs
 
-loop-holds : tie.Need-loop-holds Inv-loop μ-loop
-loop-holds c = search begun
+part-decode-tokens-start : tie.Need-part-decode-tokens-start
+part-decode-tokens-start c = search needs
 
-decode-token-requires : tie.Need-decode-token-requires Inv-loop μ-loop
-decode-token-requires c κs = search needs
+part-decode-tokens-end : tie.Need-part-decode-tokens-end
+part-decode-tokens-end c = search needs
 
-same-length : tie.Need-same-length Inv-loop μ-loop
+decode-tokens-requires : tie.Need-decode-tokens-requires
+decode-tokens-requires c κs = search needs
+
+add-after : tie.Need-add-after
+add-after c = search needs
+
+same-length : tie.Need-same-length
 same-length c = search needs
 
-returns : tie.Need-returns Inv-loop μ-loop
-returns c = search stopped
+returns : tie.Need-returns
+returns c = search part-more
 
-loop-less : tie.Need-loop-less Inv-loop μ-loop
-loop-less c = search less
-
-loop-again : tie.Need-loop-again Inv-loop μ-loop
-loop-again c = search turn
-
-same-length-2 : tie.Need-same-length-2 Inv-loop μ-loop
+same-length-2 : tie.Need-same-length-2
 same-length-2 c = search needs
 
-returns-2 : tie.Need-returns-2 Inv-loop μ-loop
-returns-2 c = search over
+returns-2 : tie.Need-returns-2
+returns-2 c = search part-last
 
 pub decode-chunk-spec : {M : Type 1} → statement M
 decode-chunk-spec =
     tie.close
     (tie.spec
-    Inv-loop
-    μ-loop
-    loop-holds
-    decode-token-requires
+    part-end-requires
+    sub-decode-tokens
+    part-decode-tokens-start
+    part-decode-tokens-end
+    decode-tokens-requires
+    add-after
     same-length
     returns
-    loop-less
-    loop-again
     same-length-2
     returns-2)

@@ -1,5 +1,5 @@
 -- `piece_decoder::decode_token` meets its contract.
-use Rattle.piece_decoder.proofs.ChunkLaws.{token-run}
+use Rattle.piece_decoder.proofs.TokenLaws.{token-run}
 use borrow.Author.Needs.{needs}
 use Rattle.piece_decoder.proofs.decode_token.Statement.{statement}
 use Rattle.piece_decoder.proofs.decode_token.Tie as tie
@@ -16,26 +16,26 @@ same-length c = search needs
 returns : tie.Need-returns
 returns c = search needs
 
-sub-copy-literals-overrun : tie.Need-sub-copy-literals-overrun
-sub-copy-literals-overrun c = search needs
+sub-copy-literals : tie.Need-sub-copy-literals
+sub-copy-literals c = search needs
 
-part-copy-literals-overrun-start : tie.Need-part-copy-literals-overrun-start
-part-copy-literals-overrun-start c = search needs
+part-copy-literals-start : tie.Need-part-copy-literals-start
+part-copy-literals-start c = search needs
 
-part-copy-literals-overrun-end : tie.Need-part-copy-literals-overrun-end
-part-copy-literals-overrun-end c = search needs
+part-copy-literals-end : tie.Need-part-copy-literals-end
+part-copy-literals-end c = search needs
 
-sub-copy-literals-overrun-2 : tie.Need-sub-copy-literals-overrun-2
-sub-copy-literals-overrun-2 c = search needs
+sub-copy-literals-2 : tie.Need-sub-copy-literals-2
+sub-copy-literals-2 c = search needs
 
-part-copy-literals-overrun-start-2 : tie.Need-part-copy-literals-overrun-start-2
-part-copy-literals-overrun-start-2 c = search needs
+part-copy-literals-start-2 : tie.Need-part-copy-literals-start-2
+part-copy-literals-start-2 c = search needs
 
-part-copy-literals-overrun-end-2 : tie.Need-part-copy-literals-overrun-end-2
-part-copy-literals-overrun-end-2 c = search needs
+part-copy-literals-end-2 : tie.Need-part-copy-literals-end-2
+part-copy-literals-end-2 c = search needs
 
-copy-literals-overrun-requires : tie.Need-copy-literals-overrun-requires
-copy-literals-overrun-requires c κs = search needs
+copy-literals-requires : tie.Need-copy-literals-requires
+copy-literals-requires c κs = search needs
 
 add-after : tie.Need-add-after
 add-after c = search needs
@@ -57,13 +57,13 @@ decode-token-spec =
     decode-amp-requires
     same-length
     returns
-    sub-copy-literals-overrun
-    part-copy-literals-overrun-start
-    part-copy-literals-overrun-end
-    sub-copy-literals-overrun-2
-    part-copy-literals-overrun-start-2
-    part-copy-literals-overrun-end-2
-    copy-literals-overrun-requires
+    sub-copy-literals
+    part-copy-literals-start
+    part-copy-literals-end
+    sub-copy-literals-2
+    part-copy-literals-start-2
+    part-copy-literals-end-2
+    copy-literals-requires
     add-after
     add-end
     same-length-2

@@ -1,90 +1,34 @@
 -- `rule_element::read_gap` meets its contract.
 use borrow.Author.Needs.{needs}
-use Rattle.rule_element.proofs.Gaps.{gap-bare, gap-comma, gap-bare-2, gap-brace, gap-reversed, gap-zero, gap-good}
+use Rattle.rule_element.proofs.KindLaws.{gap-wrong, gap-good}
 use Rattle.rule_element.proofs.read_gap.Statement.{statement}
 use Rattle.rule_element.proofs.read_gap.Tie as tie
 
-add-first : tie.Need-add-first
-add-first c = search needs
+read-bounds-requires : tie.Need-read-bounds-requires
+read-bounds-requires c κs = search needs
 
-read-bound-requires : tie.Need-read-bound-requires
-read-bound-requires c κs = search needs
+enum-known-a : tie.Need-enum-known-a
+enum-known-a c = search needs
+
+enum-told : tie.Need-enum-told
+enum-told c = search needs
 
 refuse-kind-requires : tie.Need-refuse-kind-requires
 refuse-kind-requires c κs = search needs
 
 returns : tie.Need-returns
-returns c = search gap-bare
-
-byte-or-zero-requires : tie.Need-byte-or-zero-requires
-byte-or-zero-requires c κs = search needs
-
-refuse-kind-requires-2 : tie.Need-refuse-kind-requires-2
-refuse-kind-requires-2 c κs = search needs
+returns c = search gap-wrong
 
 returns-2 : tie.Need-returns-2
-returns-2 c = search gap-comma
-
-add-second : tie.Need-add-second
-add-second c = search needs
-
-read-bound-requires-2 : tie.Need-read-bound-requires-2
-read-bound-requires-2 c κs = search needs
-
-refuse-kind-requires-3 : tie.Need-refuse-kind-requires-3
-refuse-kind-requires-3 c κs = search needs
-
-returns-3 : tie.Need-returns-3
-returns-3 c = search gap-bare-2
-
-byte-or-zero-requires-2 : tie.Need-byte-or-zero-requires-2
-byte-or-zero-requires-2 c κs = search needs
-
-refuse-kind-requires-4 : tie.Need-refuse-kind-requires-4
-refuse-kind-requires-4 c κs = search needs
-
-returns-4 : tie.Need-returns-4
-returns-4 c = search gap-brace
-
-refuse-kind-requires-5 : tie.Need-refuse-kind-requires-5
-refuse-kind-requires-5 c κs = search needs
-
-returns-5 : tie.Need-returns-5
-returns-5 c = search gap-reversed
-
-refuse-kind-requires-6 : tie.Need-refuse-kind-requires-6
-refuse-kind-requires-6 c κs = search needs
-
-returns-6 : tie.Need-returns-6
-returns-6 c = search gap-zero
-
-add-next : tie.Need-add-next
-add-next c = search needs
-
-returns-7 : tie.Need-returns-7
-returns-7 c = search gap-good
+returns-2 c = search gap-good
 
 pub read-gap-spec : {M : Type 1} → statement M
 read-gap-spec =
     tie.close
     (tie.spec
-    add-first
-    read-bound-requires
+    read-bounds-requires
+    enum-known-a
+    enum-told
     refuse-kind-requires
     returns
-    byte-or-zero-requires
-    refuse-kind-requires-2
-    returns-2
-    add-second
-    read-bound-requires-2
-    refuse-kind-requires-3
-    returns-3
-    byte-or-zero-requires-2
-    refuse-kind-requires-4
-    returns-4
-    refuse-kind-requires-5
-    returns-5
-    refuse-kind-requires-6
-    returns-6
-    add-next
-    returns-7)
+    returns-2)

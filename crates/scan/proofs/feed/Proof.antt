@@ -7,8 +7,8 @@ use Rattle.scan.proofs.feed.Tie as tie
 refused-requires : tie.Need-refused-requires
 refused-requires c κs = search needs
 
-refusal-requires : tie.Need-refusal-requires
-refusal-requires c κs = search needs
+refused-requires-2 : tie.Need-refused-requires-2
+refused-requires-2 c κs = search needs
 
 same-length : tie.Need-same-length
 same-length c = search needs
@@ -33,7 +33,7 @@ feed-spec =
     tie.close
     (tie.spec
     refused-requires
-    refusal-requires
+    refused-requires-2
     same-length
     returns
     feed-accepted-requires

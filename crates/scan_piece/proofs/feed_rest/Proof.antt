@@ -7,6 +7,9 @@ use Rattle.scan_piece.proofs.feed_rest.Tie as tie
 scan-rest-requires : tie.Need-scan-rest-requires
 scan-rest-requires c κs = search needs
 
+nothing-held-requires : tie.Need-nothing-held-requires
+nothing-held-requires c κs = search needs
+
 sub-top-up : tie.Need-sub-top-up
 sub-top-up c = search needs
 
@@ -30,6 +33,7 @@ feed-rest-spec =
     tie.close
     (tie.spec
     scan-rest-requires
+    nothing-held-requires
     sub-top-up
     part-top-up-start
     part-top-up-end

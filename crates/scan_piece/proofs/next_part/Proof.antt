@@ -1,14 +1,11 @@
 -- `scan_piece::next_part` meets its contract.
-use Rattle.scan_piece.proofs.Pieces.{token-run}
+use Rattle.scan_piece.proofs.Pieces.{place-stepped}
 use borrow.Author.Needs.{needs}
 use Rattle.scan_piece.proofs.next_part.Statement.{statement}
 use Rattle.scan_piece.proofs.next_part.Tie as tie
 
-literal-end-requires : tie.Need-literal-end-requires
-literal-end-requires c κs = search needs
-
-in-place-requires : tie.Need-in-place-requires
-in-place-requires c κs = search needs
+literal-chunk-requires : tie.Need-literal-chunk-requires
+literal-chunk-requires c κs = search needs
 
 sub-step-text : tie.Need-sub-step-text
 sub-step-text c = search needs
@@ -26,7 +23,7 @@ same-length : tie.Need-same-length
 same-length c = search needs
 
 returns : tie.Need-returns
-returns c = search token-run
+returns c = search place-stepped
 
 step-chunk-requires : tie.Need-step-chunk-requires
 step-chunk-requires c κs = search needs
@@ -41,8 +38,7 @@ pub next-part-spec : {M : Type 1} → statement M
 next-part-spec =
     tie.close
     (tie.spec
-    literal-end-requires
-    in-place-requires
+    literal-chunk-requires
     sub-step-text
     part-step-text-start
     part-step-text-end

@@ -2,13 +2,14 @@
 use native.Mathlib.Omega.{arith}
 use Prim.Native.Nat.{_-_}
 use lib.ListN.{length}
+use Rattle.shift_and_step.specs.Stepping.{automatonOf}
 use Rattle.scan_piece.proofs.Pieces.{Resting, resting, rest-open, rest-turn, rest-over}
 use borrow.Author.Needs.{needs}
 use Rattle.scan_piece.proofs.scan_rest.Statement.{statement}
 use Rattle.scan_piece.proofs.scan_rest.Tie as tie
 
 abbrev Inv-loop : tie.InvT-loop
-Inv-loop table masks plan piece from ends₀ s₀ i₀ ends s i = Resting table masks s₀ piece from ends₀ s i ends
+Inv-loop table masks plan piece from ends₀ s₀ i₀ ends s i = Resting (automatonOf table masks) s₀ piece from ends₀ s i ends
 
 abbrev μ-loop : tie.MeasureT-loop
 μ-loop table masks plan piece from ends₀ s₀ i₀ ends s i = length piece - i

@@ -1,5 +1,7 @@
 -- `scan_value::possible` meets its contract.
-use Rattle.scan_value.proofs.Checks.{length-wrong, no-position, positions-over, finished-over, raw-over, decoded-over, held-over, counts-over, can-load, by-tail, bytes-over}
+use native.Mathlib.Omega.{arith}
+use lib.ListN.{length-take}
+use Rattle.scan_value.proofs.Checks.{length-wrong, lent-long, rule-long, by-plan, rule-wrong}
 use borrow.Author.Needs.{needs}
 use Rattle.scan_value.proofs.possible.Statement.{statement}
 use Rattle.scan_value.proofs.possible.Tie as tie
@@ -7,96 +9,40 @@ use Rattle.scan_value.proofs.possible.Tie as tie
 returns : tie.Need-returns
 returns c = search length-wrong
 
-shared-slice-read-if2 : tie.Need-shared-slice-read-if2
-shared-slice-read-if2 c = search needs
+slice-aggregate-possible : tie.Need-slice-aggregate-possible
+slice-aggregate-possible c = simp length-take (omega arith)
+
+possible-requires : tie.Need-possible-requires
+possible-requires c κs = search rule-long
+
+sub-possible : tie.Need-sub-possible
+sub-possible c = search needs
+
+part-possible-start : tie.Need-part-possible-start
+part-possible-start c = search needs
+
+part-possible-end : tie.Need-part-possible-end
+part-possible-end c = search needs
+
+possible-requires-2 : tie.Need-possible-requires-2
+possible-requires-2 c κs = search lent-long
 
 returns-2 : tie.Need-returns-2
-returns-2 c = search no-position
-
-shared-slice-read-if3 : tie.Need-shared-slice-read-if3
-shared-slice-read-if3 c = search needs
+returns-2 c = search by-plan
 
 returns-3 : tie.Need-returns-3
-returns-3 c = search positions-over
-
-shared-slice-read-if4 : tie.Need-shared-slice-read-if4
-shared-slice-read-if4 c = search needs
-
-returns-4 : tie.Need-returns-4
-returns-4 c = search finished-over
-
-shared-slice-read-if5 : tie.Need-shared-slice-read-if5
-shared-slice-read-if5 c = search needs
-
-returns-5 : tie.Need-returns-5
-returns-5 c = search raw-over
-
-shared-slice-read-if6 : tie.Need-shared-slice-read-if6
-shared-slice-read-if6 c = search needs
-
-returns-6 : tie.Need-returns-6
-returns-6 c = search decoded-over
-
-shared-slice-read-if7 : tie.Need-shared-slice-read-if7
-shared-slice-read-if7 c = search needs
-
-returns-7 : tie.Need-returns-7
-returns-7 c = search held-over
-
-shared-slice-read-if8 : tie.Need-shared-slice-read-if8
-shared-slice-read-if8 c = search needs
-
-shared-slice-read-if8-2 : tie.Need-shared-slice-read-if8-2
-shared-slice-read-if8-2 c = search needs
-
-add-if8 : tie.Need-add-if8
-add-if8 c = search needs
-
-shared-slice-read-if8-3 : tie.Need-shared-slice-read-if8-3
-shared-slice-read-if8-3 c = search needs
-
-returns-8 : tie.Need-returns-8
-returns-8 c = search counts-over
-
-bytes-fit-requires : tie.Need-bytes-fit-requires
-bytes-fit-requires c κs = search needs
-
-load-requires : tie.Need-load-requires
-load-requires c κs = search can-load
-
-tail-fits-requires : tie.Need-tail-fits-requires
-tail-fits-requires c κs = search needs
-
-returns-9 : tie.Need-returns-9
-returns-9 c = search by-tail
-
-returns-10 : tie.Need-returns-10
-returns-10 c = search bytes-over
+returns-3 c = search rule-wrong
 
 pub possible-spec : {M : Type 1} → statement M
 possible-spec =
     tie.close
     (tie.spec
     returns
-    shared-slice-read-if2
+    slice-aggregate-possible
+    possible-requires
+    sub-possible
+    part-possible-start
+    part-possible-end
+    possible-requires-2
     returns-2
-    shared-slice-read-if3
-    returns-3
-    shared-slice-read-if4
-    returns-4
-    shared-slice-read-if5
-    returns-5
-    shared-slice-read-if6
-    returns-6
-    shared-slice-read-if7
-    returns-7
-    shared-slice-read-if8
-    shared-slice-read-if8-2
-    add-if8
-    shared-slice-read-if8-3
-    returns-8
-    bytes-fit-requires
-    load-requires
-    tail-fits-requires
-    returns-9
-    returns-10)
+    returns-3)

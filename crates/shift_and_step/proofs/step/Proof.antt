@@ -1,5 +1,5 @@
 -- `shift_and_step::step` meets its contract.
-use Rattle.shift_and_step.specs.Stepping.{stepN}
+use Rattle.shift_and.specs.Automaton.{stepWith}
 use Rattle.shift_and_step.proofs.Steps.{step-none}
 use borrow.Author.Needs.{needs}
 use Rattle.shift_and_step.proofs.step.Statement.{statement}
@@ -21,7 +21,7 @@ advance-requires : tie.Need-advance-requires
 advance-requires c κs = search needs
 
 returns-2 : tie.Need-returns-2
-unfolding stepN
+unfolding stepWith
 returns-2 c = cc
 
 pub step-spec : {M : Type 1} → statement M

@@ -1,11 +1,12 @@
 -- `window_reader::count_back` meets its contract.
+use Rattle.shift_and_step.specs.Stepping.{automatonOf}
 use Rattle.window_reader.proofs.BackLaws.{Counting, count-begun, counted, count-passed, count-over}
 use borrow.Author.Needs.{needs}
 use Rattle.window_reader.proofs.count_back.Statement.{statement}
 use Rattle.window_reader.proofs.count_back.Tie as tie
 
 abbrev Inv-loop : tie.InvT-loop
-Inv-loop reversed m text from d₀ k₀ j₀ d k j = Counting reversed m text from d k j
+Inv-loop reversed m text from d₀ k₀ j₀ d k j = Counting (automatonOf reversed m) text from d k j
 
 abbrev μ-loop : tie.MeasureT-loop
 μ-loop reversed m text from d₀ k₀ j₀ d k j = j

@@ -1,12 +1,13 @@
 -- `window_reader::last_byte_states` meets its contract.
 use Prim.Native.Nat.{_-_}
+use Rattle.shift_and_step.specs.Stepping.{automatonOf}
 use Rattle.window_reader.proofs.WindowLaws.{Stepping, firsts-begun, firsts-on, firsts-over}
 use borrow.Author.Needs.{needs}
 use Rattle.window_reader.proofs.last_byte_states.Statement.{statement}
 use Rattle.window_reader.proofs.last_byte_states.Tie as tie
 
 abbrev Inv-loop : tie.InvT-loop
-Inv-loop reversed m first₀ c₀ first c = Stepping reversed m first c
+Inv-loop reversed m first₀ c₀ first c = Stepping (automatonOf reversed m) first c
 
 abbrev μ-loop : tie.MeasureT-loop
 μ-loop reversed m first₀ c₀ first c = 256 - c

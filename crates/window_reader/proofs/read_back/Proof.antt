@@ -1,4 +1,5 @@
 -- `window_reader::read_back` meets its contract.
+use Rattle.shift_and_step.specs.Stepping.{automatonOf}
 use Rattle.window_reader.specs.Reading.{Unread}
 use Rattle.window_reader.proofs.WindowLaws.{look-emptied, look-begins, look-passed, look-over}
 use borrow.Author.Needs.{needs}
@@ -6,7 +7,7 @@ use Rattle.window_reader.proofs.read_back.Statement.{statement}
 use Rattle.window_reader.proofs.read_back.Tie as tie
 
 abbrev Inv-loop : tie.InvT-loop
-Inv-loop reversed m size text w d₁ last₁ j₁ d₀ last₀ j₀ d last j = Unread reversed m size text w d last j
+Inv-loop reversed m size text w d₁ last₁ j₁ d₀ last₀ j₀ d last j = Unread (automatonOf reversed m) size text w d last j
 
 abbrev μ-loop : tie.MeasureT-loop
 μ-loop reversed m size text w d₁ last₁ j₁ d₀ last₀ j₀ d last j = j

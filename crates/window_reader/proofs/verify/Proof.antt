@@ -1,12 +1,13 @@
 -- `window_reader::verify` meets its contract.
 use Prim.Native.Nat.{_-_}
+use Rattle.shift_and_step.specs.Stepping.{automatonOf}
 use Rattle.window_reader.proofs.VerifyLaws.{Verifying, verify-begun, verify-died, verify-ended, verify-passed, verify-over}
 use borrow.Author.Needs.{needs}
 use Rattle.window_reader.proofs.verify.Statement.{statement}
 use Rattle.window_reader.proofs.verify.Tie as tie
 
 abbrev Inv-loop : tie.InvT-loop
-Inv-loop forward m text s stop d₀ e₀ d e = Verifying forward m text s stop d e
+Inv-loop forward m text s stop d₀ e₀ d e = Verifying (automatonOf forward m) text s stop d e
 
 abbrev μ-loop : tie.MeasureT-loop
 μ-loop forward m text s stop d₀ e₀ d e = stop - e

@@ -1,11 +1,12 @@
 -- `window_reader::write_back` meets its contract.
+use Rattle.shift_and_step.specs.Stepping.{automatonOf}
 use Rattle.window_reader.proofs.BackLaws.{Writing, write-begun, more-place, more-within, above, inside, more-less, wrote, write-passed, write-over}
 use borrow.Author.Needs.{needs}
 use Rattle.window_reader.proofs.write_back.Statement.{statement}
 use Rattle.window_reader.proofs.write_back.Tie as tie
 
 abbrev Inv-loop : tie.InvT-loop
-Inv-loop reversed m text from starts₀ first k d₀ p₀ j₀ starts d p j = Writing reversed m text from starts₀ first starts d p j
+Inv-loop reversed m text from starts₀ first k d₀ p₀ j₀ starts d p j = Writing (automatonOf reversed m) text from starts₀ first starts d p j
 
 abbrev μ-loop : tie.MeasureT-loop
 μ-loop reversed m text from starts₀ first k d₀ p₀ j₀ starts d p j = j

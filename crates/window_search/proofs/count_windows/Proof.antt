@@ -1,13 +1,14 @@
 -- `window_search::count_windows` meets its contract.
 use Prim.Native.Nat.{_-_}
 use lib.ListN.{length}
+use Rattle.window_search.specs.Searching.{backwardOf}
 use Rattle.window_search.proofs.Searches.{Trying, try-begun, try-quick, try-turn, try-over}
 use borrow.Author.Needs.{needs}
 use Rattle.window_search.proofs.count_windows.Statement.{statement}
 use Rattle.window_search.proofs.count_windows.Tie as tie
 
 abbrev Inv-loop : tie.InvT-loop
-Inv-loop reversed first rule text w w₀ k₀ w' k = Trying reversed rule text w w' k
+Inv-loop reversed first rule text w w₀ k₀ w' k = Trying (backwardOf reversed rule) (rule .shortest) text w w' k
 
 abbrev μ-loop : tie.MeasureT-loop
 μ-loop reversed first rule text w w₀ k₀ w' k = length text - w'

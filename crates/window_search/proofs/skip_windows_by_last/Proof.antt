@@ -1,14 +1,14 @@
 -- `window_search::skip_windows_by_last` meets its contract.
 use Prim.Native.Nat.{_-_}
 use lib.ListN.{length}
-use Rattle.window_search.specs.Searching.{SkippedIs}
+use Rattle.window_search.specs.Searching.{backwardOf, SkippedIs}
 use Rattle.window_search.proofs.Searches.{skip-begun, skip-unknown}
 use borrow.Author.Needs.{needs}
 use Rattle.window_search.proofs.skip_windows_by_last.Statement.{statement}
 use Rattle.window_search.proofs.skip_windows_by_last.Tie as tie
 
 abbrev Inv-loop : tie.InvT-loop
-Inv-loop reversed first rule text w w₀ k₀ w' k = SkippedIs reversed rule text w w' k
+Inv-loop reversed first rule text w w₀ k₀ w' k = SkippedIs (backwardOf reversed rule) (rule .shortest) text w w' k
 
 abbrev μ-loop : tie.MeasureT-loop
 μ-loop reversed first rule text w w₀ k₀ w' k = length text - w'

@@ -2,13 +2,14 @@
 use native.Mathlib.Omega.{arith}
 use Prim.Native.Nat.{_-_}
 use lib.ListN.{length}
+use Rattle.window_search.specs.Searching.{onwardOf, backwardOf}
 use Rattle.window_search.proofs.Searches.{SearchProgress, begun, windows-skipped, start-short, start-less, started, empty-short, empty-less, passed, has-entry, halted, rule-some}
 use borrow.Author.Needs.{needs}
 use Rattle.window_search.proofs.verify_windows.Statement.{statement}
 use Rattle.window_search.proofs.verify_windows.Tie as tie
 
 abbrev Inv-loop : tie.InvT-loop
-Inv-loop forward reversed first rule text starts₀ w₀ count₀ tried₀ spent₀ starts w count tried spent = SearchProgress forward reversed rule text starts₀ starts w count tried spent
+Inv-loop forward reversed first rule text starts₀ w₀ count₀ tried₀ spent₀ starts w count tried spent = SearchProgress (onwardOf forward rule) (backwardOf reversed rule) (rule .shortest) text starts₀ starts w count tried spent
 
 abbrev μ-loop : tie.MeasureT-loop
 μ-loop forward reversed first rule text starts₀ w₀ count₀ tried₀ spent₀ starts w count tried spent = length text - w
@@ -44,7 +45,7 @@ mul-starts : tie.Need-mul-starts Inv-loop μ-loop
 mul-starts c = search needs
 
 slice-write-starts : tie.Need-slice-write-starts Inv-loop μ-loop
-slice-write-starts c = search has-entry
+slice-write-starts c = search (has-entry, rule-some)
 
 add-count : tie.Need-add-count Inv-loop μ-loop
 add-count c = search needs

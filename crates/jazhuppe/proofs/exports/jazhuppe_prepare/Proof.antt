@@ -1,5 +1,5 @@
 -- `jazhuppe::exports::jazhuppe_prepare` meets its contract.
-use Rattle.jazhuppe.proofs.Parts.{prepare-answers}
+use Rattle.jazhuppe.proofs.Prepares.{prepare-answers}
 use borrow.Author.Needs.{needs}
 use Rattle.jazhuppe.proofs.exports.jazhuppe_prepare.Statement.{statement}
 use Rattle.jazhuppe.proofs.exports.jazhuppe_prepare.Tie as tie
