@@ -1,10 +1,10 @@
 -- Stores into a lent list: one run after another, stores into a part of it, and what they make of the whole. Assumes nothing.
 use mathlib.Core.Path.{_≡_, sym, ap, _∙_}
-use mathlib.Core.List.{List, [], _∷_, _++_, append-assoc}
+use mathlib.Core.List.{List, [], _∷_, _++_, append-assoc, append-nil}
 use Prim.Native.Nat.{ℕ, suc, _+_, _-_, _≤_}
 use native.Mathlib.Nat.{add-zero, add-suc, suc-add, zero-add}
 use native.Mathlib.Omega.{arith}
-use lib.ListN.{length, set, take, drop, length-append, length-drop, take-append-drop}
+use lib.ListN.{length, set, take, drop, length-append, length-drop, take-append-drop, drop-of-length-le}
 use lib.Seq.{sets, sets-eq, length-sets, drop-drop, drop-append-le, take-at, length-take-le}
 use borrow.Rule.Slice.PartMut.{putMid, midOf}
 use Rattle.model.specs.NumberedAnswers.{overwrite}
@@ -29,6 +29,12 @@ sets-mid l a k vs h v =
 -- the same for the part from a to the end
 pub sets-from : (l : List ℕ) (a : ℕ) (vs : List ℕ) → a + length vs ≤ length l → putMid a (length l - a) l (sets (midOf a (length l - a) l) 0 vs) ≡ sets l a vs
 sets-from l a vs h = sets-mid l a (length l - a) vs (omega arith) (omega arith)
+
+-- the part from a to the end, come back written anew
+pub put-rest : (l : List ℕ) (a : ℕ) (part : List ℕ) → putMid a (length l - a) l part ≡ take a l ++ part
+put-rest l a part =
+    let short : length (drop a l) ≤ length l - a = omega (arith, length-drop a l) in
+    ap (λ (x : List ℕ). take a l ++ (part ++ x)) (drop-of-length-le (drop a l) short) ∙ ap (λ (x : List ℕ). take a l ++ x) (append-nil part)
 
 -- from the front: what a call's contract says of the list
 pub sets-overwrite : (l vs : List ℕ) → length vs ≤ length l → sets l 0 vs ≡ overwrite l vs

@@ -1,17 +1,18 @@
 -- What an opening answers and leaves. On plain values. Assumes nothing.
 use mathlib.Core.Path.{_≡_, sym, ap, ap₂, _∙_}
 use mathlib.Core.Bool.{Bool, false}
-use mathlib.Core.List.{List, [], _++_, append-nil}
+use mathlib.Core.List.{List, [], _++_}
 use Prim.Native.Nat.{ℕ, _+_, _-_, _≤_}
 use native.Mathlib.Omega.{arith}
-use lib.ListN.{length, take, drop, length-append, length-drop, drop-of-length-le}
+use lib.ListN.{length, take, drop, length-append, length-drop}
 use lib.Seq.{take-at, length-take-le}
-use borrow.Rule.Slice.PartMut.{putMid, postOf}
+use borrow.Rule.Slice.PartMut.{putMid}
 use borrow.Author.Tests.{eq-eqb, ne-eqb}
 use Rattle.model.specs.RefusalNumbers.{impossible}
 use Rattle.model.specs.Occurrence.{Position}
 use Rattle.model.specs.RuleText.{foldFlag, positions}
 use Rattle.model.specs.NumberedAnswers.{positionsBy, rulePositions}
+use Rattle.model.proofs.LentLists.{put-rest}
 use Rattle.answers.specs.declared.Opened.{Opened}
 use Rattle.answers.specs.Answers.{refusingRule, acceptingRule}
 use Rattle.shift_and.specs.Automaton.{openingState}
@@ -88,12 +89,9 @@ module _ (flag : ℕ) (rule : List ℕ) (p : Prepared) (s : List ℕ) (q : Opena
         → putMid ruleLength (length (r ++ drop ruleLength s) - ruleLength) (r ++ drop ruleLength s) pl ≡ openingOf (rulePositions (foldFlag flag) rule)
     unfolding openingOf
     both-opened n x pl f =
-        let ps = rulePositions (foldFlag flag) rule in
-        let l : length r ≡ ruleLength = ap length e ∙ opening-long ps in
-        let v : List ℕ = r ++ drop ruleLength s in
-        let short : length (drop ruleLength v) ≤ length v - ruleLength = omega (arith, length-drop ruleLength v) in
-        let none : postOf ruleLength (length v - ruleLength) v ≡ [] = drop-of-length-le (drop ruleLength v) short in
-        ap₂ (λ (a b : List ℕ). a ++ b) (take-at r (drop ruleLength s) ruleLength l ∙ e) (ap₂ (λ (a b : List ℕ). a ++ b) (f ∙ ap (planFields 0 0 0) (x .is)) none ∙ append-nil (planFields 0 0 0 []))
+        let l : length r ≡ ruleLength = ap length e ∙ opening-long (rulePositions (foldFlag flag) rule) in
+        put-rest (r ++ drop ruleLength s) ruleLength pl
+        ∙ ap₂ (λ (a b : List ℕ). a ++ b) (take-at r (drop ruleLength s) ruleLength l ∙ e) (f ∙ ap (planFields 0 0 0) (x .is))
 
     pub both-same : (n : Held) → NothingHeld n → (pl : List ℕ) → pl ≡ planFields 0 0 0 (heldOf n) → length (putMid ruleLength (length (r ++ drop ruleLength s) - ruleLength) (r ++ drop ruleLength s) pl) ≡ length s
     both-same n x pl f = ap length (both-opened n x pl f) ∙ value-length (rulePositions (foldFlag flag) rule) ∙ sym (q .long)

@@ -1,16 +1,17 @@
 -- A scan value read back after D and its plan's part were written. On plain values. Assumes nothing.
 use mathlib.Core.Path.{_≡_, sym, ap, ap₂, _∙_}
 use mathlib.Core.Bool.{true}
-use mathlib.Core.List.{List, [], _++_, append-nil}
+use mathlib.Core.List.{List, _++_}
 use Prim.Native.Nat.{ℕ, _+_, _-_, _≤_}
 use native.Mathlib.Omega.{arith}
-use lib.ListN.{length, drop, getD, set, length-append, length-set, length-drop, drop-of-length-le}
+use lib.ListN.{length, getD, set, length-append, length-set}
 use lib.Seq.{take-at, drop-at, take-set-lt}
-use borrow.Rule.Slice.PartMut.{putMid, postOf, midOf}
+use borrow.Rule.Slice.PartMut.{putMid, midOf}
 use borrow.Author.Tests.{eq-eqb}
 use Rattle.model.specs.RuleText.{positionLimit}
 use Rattle.model.specs.NumberedAnswers.{textLimit}
 use Rattle.model.specs.References.{formLimit, heldMost, heldTail}
+use Rattle.model.proofs.LentLists.{put-rest}
 use Rattle.rule_part.specs.RulePart.{ruleLength, stateAt, withState, automatonOfRule, stateOf, possibleRule}
 use Rattle.rule_part.proofs.RuleFields.{rule-possible, state-long, state-automaton, state-count, state-is}
 use Rattle.plan_part.specs.PlanPart.{planLength, byteMost, finishedOf, rawOf, decodedOf, heldBytesOf, planFields, possiblePlan}
@@ -86,11 +87,7 @@ module _ (s : List ℕ) (long : length s ≡ scanLength) (d : ℕ) where
 
   pub put-is : (f r c : ℕ) (h p : List ℕ) → p ≡ planFields f r c h → putMid ruleLength (length (set s stateAt d) - ruleLength) (set s stateAt d) p ≡ written s d f r c h
   unfolding written withState
-  put-is f r c h p e =
-      let u : List ℕ = set s stateAt d in
-      let short : length (drop ruleLength u) ≤ length u - ruleLength = omega (arith, length-drop ruleLength u) in
-      let none : postOf ruleLength (length u - ruleLength) u ≡ [] = drop-of-length-le (drop ruleLength u) short in
-      ap₂ (λ (x y : List ℕ). x ++ y) (take-set-lt ruleLength s stateAt d (omega arith)) (ap₂ (λ (x y : List ℕ). x ++ y) e none ∙ append-nil (planFields f r c h))
+  put-is f r c h p e = put-rest (set s stateAt d) ruleLength p ∙ ap₂ (λ (x y : List ℕ). x ++ y) (take-set-lt ruleLength s stateAt d (omega arith)) e
 
   pub put-same : (f r c : ℕ) (h p : List ℕ) → p ≡ planFields f r c h → length (putMid ruleLength (length (set s stateAt d) - ruleLength) (set s stateAt d) p) ≡ length s
   put-same f r c h p e = ap length (put-is f r c h p e) ∙ written-long s long d f r c h ∙ sym long
