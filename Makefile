@@ -13,6 +13,7 @@ WARNINGS = -Wall -Wextra -Wpedantic -Wconversion -Wshadow
 COMPILE = $(CC) -std=c99 $(WARNINGS) $(CFLAGS) -Iinclude
 
 ARCHIVE = target/staticlib/libjazhuppe.a
+LISTER = target/bin/lister
 PROGRAM = build/jazhuppe
 HEADER = include/jazhuppe.h
 TESTS = $(addprefix build/test/, marked refusals scan_values limits differential)
@@ -24,6 +25,10 @@ all: $(ARCHIVE) $(PROGRAM)
 # It needs the Rattle kit's rt, which proves what has changed and compiles it only then.
 $(ARCHIVE): crates.txt $(shell find crates -name must-fail -prune -o -type f -print)
 	rt staticlib jazhuppe
+
+# Document 01's program, in Rattle: the gate leaves it there, and the host tests run it.
+$(LISTER): crates.txt $(shell find crates -name must-fail -prune -o -type f -print)
+	rt check lister
 
 $(PROGRAM): host/jazhuppe.c $(HEADER) $(ARCHIVE)
 	@mkdir -p $(@D)
@@ -39,7 +44,7 @@ build/test/%.o: host/test/%.c $(wildcard host/test/*.h) $(HEADER)
 $(TESTS): %: %.o build/test/testing.o build/test/second.o $(ARCHIVE)
 	$(CC) $^ -o $@
 
-host-test: $(PROGRAM) $(TESTS)
+host-test: $(PROGRAM) $(TESTS) $(LISTER)
 	CC="$(CC)" CXX="$(CXX)" PROGRAM=$(PROGRAM) sh host/test/all.sh
 
 test:

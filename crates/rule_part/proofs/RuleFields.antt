@@ -6,7 +6,7 @@ use Prim.Native.Nat.{ℕ, _+_, _≤_, _<_}
 use native.Mathlib.Omega.{arith}
 use lib.Dec.{leb}
 use lib.ListN.{length, take, getD, set, length-append, length-set, drop-of-length-le}
-use lib.Seq.{sets-eq, length-sets, take-append-seam, getD-append-add, take-set-le, getD-set-other, getD-set-same}
+use lib.Seq.{sets-eq, take-append-seam, getD-append-add, take-set-le, getD-set-other, getD-set-same}
 use borrow.Author.Tests.{le-leb, lt-leb, leb-true}
 use Rattle.model.specs.RuleText.{positionLimit}
 use Rattle.shift_and.specs.Automaton.{openingState}
@@ -30,9 +30,6 @@ module _ (r : List ℕ) where
   rule-possible a b = simp (le-leb _ _ a, le-leb _ _ b)
 
 -- ---- `begin`
-
-pub begin-long : (r : List ℕ) (a b n d : ℕ) → length (set (set (set (set r repeatsAt a) optionalAt b) positionsAt n) stateAt d) ≡ length r
-begin-long r a b n d = length-sets r repeatsAt (a ∷ b ∷ n ∷ d ∷ [])
 
 pub begin-is : (r : List ℕ) (m : Masks) (d : ℕ) → length r ≡ ruleLength → d ≡ openingState (automatonOf (entriesOf r) m)
     → set (set (set (set r repeatsAt (m .repeats)) optionalAt (m .optional)) positionsAt (m .top)) stateAt d ≡ begun r m
