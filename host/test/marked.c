@@ -1,4 +1,5 @@
-/* marked.c: the requirement's marked table, its lister example, and the header's constants, through the header. */
+/* marked.c: the requirement's marked table, its lister example, the fold, and the header's constants, through the header. */
+#include <ctype.h>
 #include <string.h>
 
 #include "jazhuppe.h"
@@ -320,6 +321,43 @@ static void test_empty_piece(void)
     CHECK(ends.count == 0);
 }
 
+/* The starts of a folded rule in a text of all 256 bytes: exactly b and its other case, or exactly the other bytes. */
+static void folds(const char *rule, size_t length, int b, bool turned)
+{
+    uint8_t bytes[256];
+    uint32_t *starts = lend(&list_room, sizeof bytes * sizeof *starts);
+    int other = isupper(b) ? tolower(b) : toupper(b);
+    size_t found = 0;
+    jazhuppe_answer a;
+
+    for (int c = 0; c < 256; c++)
+        bytes[c] = (uint8_t)c;
+    about("byte %d as %.*s", b, (int)length, rule);
+    a = jazhuppe_search(lend_bytes(&rule_room, rule, length), length, 1, lend_bytes(&text_room, bytes, sizeof bytes),
+                        sizeof bytes, starts, sizeof bytes);
+    for (int c = 0; c < 256; c++)
+        if ((c == b || c == other) != turned)
+            CHECK(found < a.count && starts[found++] == (uint32_t)c);
+    CHECK(a.number == 0 && a.count == found);
+}
+
+/* Each byte alone and in classes; its other case by the C library. */
+static void test_fold(void)
+{
+    for (int b = 0; b < 256; b++) {
+        char c = (char)b, byte[] = {'\\', c}, class[] = {'[', c, ']'}, range[] = {'[', c, '-', c, ']'};
+        char turned[] = {'[', '^', c, ']'};
+        bool mark = b != 0 && strchr(".[]{}?+*\\", b) != NULL, in_class = b != 0 && strchr("]^-\\", b) != NULL;
+
+        folds(mark ? byte : byte + 1, mark ? 2 : 1, b, false);
+        if (in_class)
+            continue;
+        folds(class, sizeof class, b, false);
+        folds(range, sizeof range, b, false);
+        folds(turned, sizeof turned, b, true);
+    }
+}
+
 static void run_all(void)
 {
     run("M1 to M8 and the lister's example: scan, search, show", test_rows);
@@ -327,6 +365,7 @@ static void run_all(void)
     run("M9 to M11: references", test_references);
     run("M12: the empty string is admitted", test_M12);
     run("an empty piece reports no end", test_empty_piece);
+    run("the fold flag with each of the 256 bytes", test_fold);
     run("JAZHUPPE_SCAN_WORDS", test_scan_words);
     run("JAZHUPPE_FEED_LIST", test_held_most);
     run("JAZHUPPE_FINISH_LIST", test_finish_list);

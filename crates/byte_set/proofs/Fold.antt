@@ -1,14 +1,17 @@
--- "The fold is a constant table of 256 entries: a letter's entry is its other case, every other byte's entry is itself": the table of
--- src/lib.rt, one computed test over all its entries, and the law that carries it to each. Assumes nothing.
+-- "Replace the table by the formula, proved to give each of its 256 entries": the constant table that stood in src/lib.rt before note 3, what the code computes in
+-- its place, one computed test over all entries, and the laws that carry it to each. Assumes nothing.
 use mathlib.Core.Path.{_≡_, sym, ap, _∙_}
 use mathlib.Core.List.{List, [], _∷_}
-use mathlib.Core.Bool.{Bool}
-use Prim.Native.Nat.{ℕ, _<_}
-use lib.Dec.{eqb, eqb→eq}
+use mathlib.Core.Bool.{Bool, _&&_, _||_}
+use Prim.Native.Nat.{ℕ, _*_, _%_, _<_}
+use lib.Bits.{bitXor}
+use lib.Dec.{leb, eqb, eqb→eq}
 use lib.ListN.{getD}
+use mir.Val.{boolByte}
 use Rattle.model.specs.RuleText.{otherCase}
 use Rattle.byte_set.proofs.Table.{at}
 
+-- "a letter's entry is its other case, every other byte's entry is itself"
 unfoldable pub table : List ℕ
 table =
     0 ∷ 1 ∷ 2 ∷ 3 ∷ 4 ∷ 5 ∷ 6 ∷ 7 ∷ 8 ∷ 9 ∷ 10 ∷ 11 ∷ 12 ∷ 13 ∷ 14 ∷ 15 ∷
@@ -29,12 +32,26 @@ table =
     240 ∷ 241 ∷ 242 ∷ 243 ∷ 244 ∷ 245 ∷ 246 ∷ 247 ∷ 248 ∷ 249 ∷ 250 ∷ 251 ∷ 252 ∷ 253 ∷ 254 ∷ 255 ∷
     []
 
+-- what `other_case` returns: 32 added or taken away is bit 5 turned round
+abbrev pub formula : ℕ → ℕ
+formula c = bitXor c (boolByte ((leb 65 c && leb c 90) || (leb 97 c && leb c 122)) * 32 % 256)
+
+abbrev given : ℕ → ℕ → Bool
+given k x = eqb (formula k) x
+
+pub formula-gives-entry : (c : ℕ) → c < 256 → formula c ≡ getD table c 0
+unfolding table
+formula-gives-entry c h = eqb→eq (formula c) (getD table c 0) (at given table tt c h)
+
 abbrev right : ℕ → ℕ → Bool
 right k x = eqb x (otherCase k)
 
 pub fold-rule : (c : ℕ) → c < 256 → getD table c 0 ≡ otherCase c
 unfolding table
 fold-rule c h = eqb→eq (getD table c 0) (otherCase c) (at right table tt c h)
+
+pub formula-is : (c : ℕ) → c < 256 → formula c ≡ otherCase c
+formula-is c h = formula-gives-entry c h ∙ fold-rule c h
 
 -- the other case of the other case is the byte itself: tested over the same entries
 abbrev back : ℕ → ℕ → Bool

@@ -2,7 +2,7 @@
 -- lister's example, a plan cut inside `&amp;`, and what is shown. (M1 to M12 are in `MarkedTable`.) Assumes nothing.
 use mathlib.Core.Path.{_≡_, refl}
 use mathlib.Core.Bool.{Bool, true, false, _&&_}
-use mathlib.Core.List.{List, [], _∷_, _++_}
+use mathlib.Core.List.{List, [], _∷_, _++_, map}
 use Prim.Native.Nat.{ℕ}
 use lib.Dec.{T, eqb}
 use lib.ListN.{length, replicate}
@@ -107,9 +107,13 @@ turned-last = (refl, refl)
 folded : reportedEnds (plainScan 256 (ascii "rOw") (feed (ascii "Row row rov") 20 ∷ finish 9 ∷ [])) ≡ 3 ∷ 7 ∷ []
 folded = refl
 
--- "a letter's entry is its other case, every other byte's entry is itself": at the edges of both alphabets
-other-cases : T (same (65 ∷ 90 ∷ 97 ∷ 122 ∷ 64 ∷ 91 ∷ 96 ∷ 123 ∷ []) (otherCase 97 ∷ otherCase 122 ∷ otherCase 65 ∷ otherCase 90 ∷ otherCase 64 ∷ otherCase 91 ∷ otherCase 96 ∷ otherCase 123 ∷ []))
+-- "bytes 65 to 90 and 97 to 122 move by 32, every other byte is itself": at the edges of both alphabets, and bytes that `c ^ 32` or bounds of seven bits
+-- would take for letters
+other-cases : T (same (map otherCase (65 ∷ 90 ∷ 97 ∷ 122 ∷ [])) (97 ∷ 122 ∷ 65 ∷ 90 ∷ []))
 other-cases = tt
+
+own-cases : T (same (map otherCase (0 ∷ 32 ∷ 64 ∷ 91 ∷ 96 ∷ 123 ∷ 193 ∷ 225 ∷ 255 ∷ [])) (0 ∷ 32 ∷ 64 ∷ 91 ∷ 96 ∷ 123 ∷ 193 ∷ 225 ∷ 255 ∷ []))
+own-cases = tt
 
 -- "`*` .. both"
 starred : reportedEnds (plainScan 0 (ascii "ab*c") (feed (ascii "ac abbc") 20 ∷ finish 9 ∷ [])) ≡ 2 ∷ 7 ∷ []

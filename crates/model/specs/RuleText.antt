@@ -63,7 +63,7 @@ abbrev pub inRanges : List Range → ℕ → Bool
 inRanges [] c = false
 inRanges (r ∷ rs) c = (leb (r .low) c && leb c (r .high)) || inRanges rs c
 
--- "a letter's entry is its other case, every other byte's entry is itself"
+-- "The fold is a formula: bytes 65 to 90 and 97 to 122 move by 32, every other byte is itself."
 abbrev pub otherCase : ℕ → ℕ
 otherCase c = cond (leb 65 c && leb c 90) (c + 32) (cond (leb 97 c && leb c 122) (c - 32) c)
 
