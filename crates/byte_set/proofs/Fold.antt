@@ -1,5 +1,5 @@
--- "Replace the table by the formula, proved to give each of its 256 entries": the constant table that stood in src/lib.rt before note 3, what the code computes in
--- its place, one computed test over all entries, and the laws that carry it to each. Assumes nothing.
+-- "Replace the table by the formula, proved to give each of its 256 entries": the constant table that stood in src/lib.rt before note 3, and what the code computes in
+-- its place. Each law is tested once over all entries by computing and carried to each by `at`. Assumes nothing.
 use mathlib.Core.Path.{_≡_, sym, ap, _∙_}
 use mathlib.Core.List.{List, [], _∷_}
 use mathlib.Core.Bool.{Bool, _&&_, _||_}
