@@ -20,6 +20,7 @@ use Rattle.model.proofs.Decoding.{decode-length}
 use Rattle.model.proofs.Decided as Decided
 use Rattle.model.proofs.FinishedPlan.{plan-ends}
 use Rattle.model.proofs.Windows.{shift-is, windows-are, no-start-passed}
+use Rattle.model.proofs.Moves.{rule-shift-largest}
 use Rattle.answers.specs.declared.Answer.{Answer}
 use Rattle.answers.specs.declared.Opened.{Opened}
 use Rattle.answers.specs.Answers.{refusing, counting}
@@ -101,6 +102,7 @@ module _ (flag : ℕ) (rule : List ℕ) (bytes : Bytes rule) where
         sequence = windows-are ps (k .inhabited) (k .not-empty);
         shifts = shift-is ps (k .inhabited) (k .not-empty);
         moves = no-start-passed ps (k .inhabited) (k .not-empty);
+        largest-move = rule-shift-largest (foldFlag flag) rule (opened s₀ o s opens ok .elements) bytes (opened s₀ o s opens ok .parses);
         alike = λ t₀ q t x z cs ds m n f g e. reports s₀ o s opens ok cs m f ∙ ap (ends ps) e ∙ sym (reports t₀ q t x z ds n g);
         alike-search = λ cs ds e list r r₂ l l₂ x y. (
           x .answers ∙ ap (λ (t : List ℕ). searchAnswer flag t (length list) (parse (foldFlag flag) rule)) e ∙ sym (y .answers),

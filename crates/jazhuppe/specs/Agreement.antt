@@ -5,12 +5,12 @@ use mathlib.Core.Logic.{_⊎_, _↔_}
 use mathlib.Core.List.{List, [], _∷_, _++_, List·Memᴰ}
 use Prim.Native.Nat.{ℕ, _+_, _≤_, _<_}
 use lib.ListN.{length, take}
-use Rattle.model.specs.Occurrence.{Position, StartsAt, EndsAt, ends, starts, RisingFrom}
+use Rattle.model.specs.Occurrence.{Position, StartsAt, EndsAt, shortest, ends, starts, RisingFrom}
 use Rattle.model.specs.NumberedAnswers.{overwrite}
 use Rattle.model.specs.References.{formLimit, decode}
 use Rattle.model.specs.PlainScan as Plain
 use Rattle.model.specs.PlainScan.{Call, feed, finish, refused, reported, plainScan, nothingKept, keptAfter}
-use Rattle.model.specs.WindowSearch.{windowAt, ShiftIs, shift, WindowsAre, windows}
+use Rattle.model.specs.WindowSearch.{windowAt, ShiftIs, shift, WindowsAre, windows, LargestMove}
 use Rattle.answers.specs.declared.Answer.{Answer}
 use Rattle.answers.specs.Answers.{refusing, counting}
 use Rattle.answers.specs.declared.Opened.{Opened}
@@ -110,6 +110,9 @@ pub record Agreement (flag : ℕ) (rule s : List ℕ) (ps : List Position) : Typ
   -- this window at w."
   pub moves : (window text : List ℕ) (w : ℕ) → windowAt ps text w ≡ window → (i : ℕ) → 1 ≤ i
       → i < shift ps window → StartsAt ps text (w + i) → ⊥
+  -- "for every window and its shift j, the text limit aside, some bytes after the window would give an occurrence starting j bytes past the window's start. With the
+  -- base promise, j is then the largest move that can be made on the window's bytes alone."
+  pub largest-move : (window : List ℕ) → Bytes window → length window ≡ shortest ps → LargestMove ps window (shift ps window)
   -- "plans that decode alike get the same answers": from any other accepted opening of the rule, however spelt and cut
   pub alike : (t₀ : List ℕ) (o : Opened) (t : List ℕ) → OpenIs flag rule t₀ o t → o .number ≡ 0 → (cs ds : List Made) → HandedOn s cs → HandedOn t ds
       → Finished cs → Finished ds → planOf cs ≡ planOf ds → reportedBy cs ≡ reportedBy ds

@@ -13,9 +13,9 @@ use Rattle.model.specs.Ascii.{byteOf, ascii}
 use Rattle.model.specs.Occurrence.{Position, all, shortest, oneIf}
 use Rattle.model.specs.RuleText.{ruleLimit, positionLimit, Kind, byte, any, class, gap, Often, once, optional, Element, kindSet, isByte, otherCase, position, kindPositions, positions, size, ReadKind, bad, good, someBelow, Items, items, faulty, itemsFrom, classOf, classAt, gapAt, boundAt, startsWith, escapeAt, kindAt, oftenAfter, markBytes, mayEscape, oneOf}
 use Rattle.model.specs.NumberedAnswers.{Parsed, refused, accepted, addElement, elementsFrom, orEmpty, parseWithin, parse, positionsBy, rulePositions}
-use Rattle.model.specs.WindowSearch.{Inhabited}
+use Rattle.model.specs.WindowSearch.{EachSet, HasByte, Inhabited}
 use Rattle.model.proofs.Truth.{and-intro, and-left, and-right, or-cases, or-left, T-to, branch}
-use Rattle.model.proofs.Law.{inhabited-append}
+use Rattle.model.proofs.Law.{each-append}
 
 -- ---- a kind that was read has some byte, and a gap has its bounds in order
 
@@ -95,17 +95,18 @@ kindAt-ok fold (c ∷ cs) a k n e =
 
 -- ---- its positions
 
-inhabited-replicate : (n : ℕ) (p : Position) → (c : ℕ) × T (p .set c) → Inhabited (replicate n p)
-inhabited-replicate zero p h = tt
-inhabited-replicate (suc n) p h = (h, inhabited-replicate n p h)
+module _ (P : (ℕ → Bool) → Type 0) where
+  each-replicate : (n : ℕ) (p : Position) → P (p .set) → EachSet P (replicate n p)
+  each-replicate zero p h = tt
+  each-replicate (suc n) p h = (h, each-replicate n p h)
 
-kind-inhabited : (fold : Bool) (k : Kind) (o : Often) → (c : ℕ) × T (isByte c && kindSet fold k c) → Inhabited (kindPositions fold k o)
-kind-inhabited fold (byte b) o h = (h, tt)
-kind-inhabited fold any o h = (h, tt)
-kind-inhabited fold (class t rs) o h = (h, tt)
-kind-inhabited fold (gap a b) o h =
-    inhabited-append (replicate (b - a) (position fold any optional)) (replicate a (position fold any once))
-    (inhabited-replicate (b - a) (position fold any optional) h) (inhabited-replicate a (position fold any once) h)
+  pub kind-each : (fold : Bool) (k : Kind) (o : Often) → P (λ c. isByte c && kindSet fold k c) → EachSet P (kindPositions fold k o)
+  kind-each fold (byte b) o h = (h, tt)
+  kind-each fold any o h = (h, tt)
+  kind-each fold (class t rs) o h = (h, tt)
+  kind-each fold (gap a b) o h =
+      each-append P (replicate (b - a) (position fold any optional)) (replicate a (position fold any once))
+      (each-replicate (b - a) (position fold any optional) h) (each-replicate a (position fold any once) h)
 
 -- ---- the elements
 
@@ -162,7 +163,7 @@ elements-ok most fold (c ∷ cs) bytes zero place used es h e = by-kind (kindAt 
             let rest = ih (pred n + markBytes o) (suc place) (used + size k) fs room (a .1) in
             let more = rest .few in
             let whole : ElementsOk most fold used (record { kind = k; often = o } ∷ fs) = record {
-              inhabited = inhabited-append (kindPositions fold k o) (positions fold fs) (kind-inhabited fold k o (ok .0)) (rest .inhabited);
+              inhabited = each-append HasByte (kindPositions fold k o) (positions fold fs) (kind-each HasByte fold k o (ok .0)) (rest .inhabited);
               few = omega (arith, length-append (kindPositions fold k o) (positions fold fs), ok .1 o);
             } in
             subst (λ (l : List Element). ElementsOk most fold used l) (a .2) whole

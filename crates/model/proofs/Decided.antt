@@ -204,7 +204,7 @@ newEnds-rise ps old new = all-rising (isEnd ps new) (length new - length old) (s
 
 -- ---- bytes that begin some string of the rule
 
-empty-begins : (ps : List Position) → T (isBeginning ps [])
+pub empty-begins : (ps : List Position) → T (isBeginning ps [])
 empty-begins [] = tt
 empty-begins (p ∷ ps) = tt
 

@@ -11,7 +11,7 @@ use lib.Dec.{T}
 use lib.ListN.{length, take, getD}
 use lib.Seq.{take-suc, take-length}
 use Rattle.model.specs.Occurrence.{Position, one, empty, Occurs, done}
-use Rattle.model.specs.WindowSearch.{Inhabited}
+use Rattle.model.specs.WindowSearch.{EachSet, HasByte, Inhabited}
 use Rattle.model.proofs.Truth.{and-intro, and-left, and-right, or-cases, or-left, or-right, T-to}
 use Rattle.model.proofs.Shares.{occurs-nil, LastWay, by-one, by-more, by-none, last-way, way-last, empty-last, last-empty, occurs-append, occurs-one, occurs-to}
 
@@ -150,13 +150,13 @@ inhabited-at [] m i h = absurd (not-suc-le-zero h)
 inhabited-at (p ∷ ps) m zero h = m .0
 inhabited-at (p ∷ ps) m (suc i) h = inhabited-at ps (m .1) i (le-of-suc-le-suc h)
 
-pub inhabited-append : (ps qs : List Position) → Inhabited ps → Inhabited qs → Inhabited (ps ++ qs)
-inhabited-append [] qs m n = n
-inhabited-append (p ∷ ps) qs m n = (m .0, inhabited-append ps qs (m .1) n)
+pub each-append : (P : (ℕ → Bool) → Type 0) (ps qs : List Position) → EachSet P ps → EachSet P qs → EachSet P (ps ++ qs)
+each-append P [] qs m n = n
+each-append P (p ∷ ps) qs m n = (m .0, each-append P ps qs (m .1) n)
 
 pub inhabited-reverse : (ps : List Position) → Inhabited ps → Inhabited (reverse ps)
 inhabited-reverse [] m = tt
-inhabited-reverse (p ∷ ps) m = rw (reverse-cons p ps) (inhabited-append (reverse ps) (p ∷ []) (inhabited-reverse ps (m .1)) (m .0, tt))
+inhabited-reverse (p ∷ ps) m = rw (reverse-cons p ps) (each-append HasByte (reverse ps) (p ∷ []) (inhabited-reverse ps (m .1)) (m .0, tt))
 
 pub filled : (ps : List Position) → Inhabited ps → (i : ℕ) → i ≤ length ps → (x : List ℕ) × Occurs (take i ps) x
 filled ps m zero h = ([], done)

@@ -7,6 +7,7 @@ pub mod Searches
 pub mod Windows
 pub mod Earliest
 pub mod Accepted
+pub mod Moves
 pub mod Refusals
 pub mod Forms
 pub mod Borders

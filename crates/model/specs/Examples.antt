@@ -1,5 +1,5 @@
 -- Sentences and edges of document 01 as closed cases of the definitions, by computing: rules that are refused or accepted, references, held tails, the
--- lister's example, a plan cut inside `&amp;`, and what is shown. (M1 to M12 are in `MarkedTable`.) Assumes nothing.
+-- lister's example, a plan cut inside `&amp;`, moves of windows, and what is shown. (M1 to M12 are in `MarkedTable`.) Assumes nothing.
 use mathlib.Core.Path.{_≡_, refl}
 use mathlib.Core.Bool.{Bool, true, false, _&&_}
 use mathlib.Core.List.{List, [], _∷_, _++_, map}
@@ -7,12 +7,12 @@ use Prim.Native.Nat.{ℕ}
 use lib.Dec.{T, eqb}
 use lib.ListN.{length, replicate}
 use Rattle.model.specs.Ascii.{ascii}
-use Rattle.model.specs.Occurrence.{Position, shortest, ends, starts}
+use Rattle.model.specs.Occurrence.{Position, shortest, isStart, ends, starts}
 use Rattle.model.specs.RuleText.{foldFlag, otherCase, kindSet, class, byte, gap, once, optional, repeatable}
 use Rattle.model.specs.NumberedAnswers.{accepted, parse, rulePositions, wholeRefusal, overwrite}
 use Rattle.model.specs.References.{formLimit, utf8, byteTokens, tokensFrom, decode, heldTail, outTokens, letOut}
 use Rattle.model.specs.PlainScan.{feed, finish, refused, reported, refusalFor, plainScan, reportedEnds}
-use Rattle.model.specs.WindowSearch.{windows, shown}
+use Rattle.model.specs.WindowSearch.{shift, windows, shown}
 use Rattle.model.specs.MarkedTable.{same, isRefused}
 
 -- ---- rules
@@ -220,6 +220,36 @@ refusals = (refl, refl, refl, refl)
 
 wholes : (wholeRefusal 5 5 ≡ 0) × (wholeRefusal 5 4 ≡ 9) × (wholeRefusal 0 0 ≡ 0) × (wholeRefusal 4294967295 4294967295 ≡ 0) × (wholeRefusal 4294967296 0 ≡ 10)
 wholes = (refl, refl, refl, refl, refl)
+
+-- ---- "some bytes after the window would give an occurrence starting j bytes past the window's start": the bytes, and j
+
+data Move : Type 0 where
+  move : (rule window after : List ℕ) (j : ℕ) → Move
+
+abbrev moveHolds : Move → Bool
+moveHolds (move rule window after j) =
+    let ps = rulePositions false rule in
+    eqb (length window) (shortest ps) && eqb j (shift ps window) && isStart ps (window ++ after) j
+
+abbrev movesHold : List Move → Bool
+movesHold [] = true
+movesHold (m ∷ ms) = moveHolds m && movesHold ms
+
+moves : T (movesHold (
+    move (ascii "abc{1,3}de") (ascii "abcabc") (ascii "xde") 3  -- M1, its first window
+    ∷ move (ascii "abc{1,3}de") (ascii "abcffd") (ascii "abcxde") 6  -- its second window: none of its bytes serves again
+    ∷ move (ascii "abc{1,3}de") (ascii "abcxde") (ascii "abcxde") 6  -- a window that matches
+    ∷ move (ascii "abc{1,3}de") (255 ∷ 0 ∷ 255 ∷ 0 ∷ 255 ∷ 97 ∷ []) (ascii "bcxde") 5  -- its last byte alone begins a string
+    ∷ move (ascii "a+") (ascii "a") (ascii "a") 1  -- M4
+    ∷ move (ascii "a+") (ascii "b") (ascii "a") 1
+    ∷ move (ascii "ab?") (ascii "a") (ascii "a") 1  -- M5
+    ∷ move (ascii "ab?") (ascii "b") (ascii "ab") 1
+    ∷ move (ascii "aa") (ascii "aa") (ascii "a") 1  -- a window that matches, with a shift below m
+    ∷ move (ascii "a?b") (ascii "a") (ascii "b") 1  -- M6
+    ∷ move (ascii "b*a+b+") (ascii "ab") (ascii "ab") 1  -- repeats at the front and at the back
+    ∷ []
+    ))
+moves = tt
 
 -- ---- what is shown, and a lent list at exit
 

@@ -5,8 +5,8 @@ use mathlib.Core.List.{List, [], _∷_, _++_}
 use Prim.Native.Nat.{ℕ, zero, suc, _+_, _-_, _≤_, _<_}
 use lib.Dec.{T, leb, ltb}
 use lib.ListN.{length, take, drop}
-use Rattle.model.specs.Occurrence.{Position, Occurs, stretch, shortest, anyFrom, isShare, isEmpty, isOccurrence, isStart}
-use Rattle.model.specs.RuleText.{foldFlag, positions}
+use Rattle.model.specs.Occurrence.{Position, all, Occurs, stretch, StartsAt, shortest, anyFrom, isShare, isEmpty, isOccurrence, isStart}
+use Rattle.model.specs.RuleText.{isByte, foldFlag, positions}
 use Rattle.model.specs.NumberedAnswers.{textLimit, Parsed, refused, accepted, parse}
 
 -- "Window w covers the m bytes from w."
@@ -17,10 +17,17 @@ windowAt ps text w = take (shortest ps) (drop w text)
 abbrev pub Begins : List Position → List ℕ → Type 0
 Begins ps u = (w : List ℕ) × Occurs ps (u ++ w)
 
+-- Every position's set is so.
+abbrev pub EachSet : ((ℕ → Bool) → Type 0) → List Position → Type 0
+EachSet P [] = Unit {0}
+EachSet P (p ∷ ps) = P (p .set) × EachSet P ps
+
 -- Every position admits some byte, as those of an accepted rule do: no class is left with none.
+abbrev pub HasByte : (ℕ → Bool) → Type 0
+HasByte s = (c : ℕ) × T (s c)
+
 abbrev pub Inhabited : List Position → Type 0
-Inhabited [] = Unit {0}
-Inhabited (p ∷ ps) = ((c : ℕ) × T (p .set c)) × Inhabited ps
+Inhabited ps = EachSet HasByte ps
 
 -- The same as a test, where every position admits some byte: the bytes are cut into shares of the first positions, and once they are all placed, the
 -- positions that are left can be filled.
@@ -61,6 +68,25 @@ windows ps text = windowsFrom (suc (length text)) ps text 0
 abbrev pub WindowsAre : List Position → (text : List ℕ) (w : ℕ) → List ℕ → Type 0
 WindowsAre ps text w [] = length text < w + shortest ps
 WindowsAre ps text w (v ∷ vs) = (v ≡ w) × (w + shortest ps ≤ length text) × WindowsAre ps text (w + shift ps (windowAt ps text w)) vs
+
+-- ---- what move can be made on a window's bytes alone
+
+-- A move of k is safe on them: "The move from w, the last one too, passes over the starts strictly between w and w plus" k, "and none of these begins an
+-- occurrence in any text with this window at w." The text is any bytes, as many as one likes: "the text limit aside".
+abbrev pub Safe : List Position → (window : List ℕ) (k : ℕ) → Type 0
+Safe ps window k = (text : List ℕ) → T (all isByte text) → (w : ℕ) → windowAt ps text w ≡ window → (i : ℕ) → 1 ≤ i → i < k → StartsAt ps text (w + i) → ⊥
+
+-- Of a window and its shift j (`shift-largest` of proofs/).
+pub record LargestMove (ps : List Position) (window : List ℕ) (j : ℕ) : Type 0 where
+  pub safe : Safe ps window j
+  -- "some bytes after the window would give an occurrence starting j bytes past the window's start": these, whatever stands before the window
+  pub after : List ℕ
+  pub after-bytes : T (all isByte after)
+  pub starts : (before : List ℕ) → StartsAt ps (before ++ window ++ after) (length before + j)
+  -- "j is then the largest move that can be made on the window's bytes alone"
+  pub largest : (k : ℕ) → Safe ps window k → k ≤ j
+
+-- ---- what is shown
 
 -- "the earliest end there": the least end of an occurrence from s.
 abbrev pub earliestEnd : List Position → List ℕ → (s : ℕ) → ℕ
