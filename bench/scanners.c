@@ -27,11 +27,11 @@ static void scan(void *opened, bytes text, size_t piece, tally *found)
     memcpy(value, opened, sizeof value);
     for (size_t at = 0; at < text.length; at += piece) {
         size_t k = text.length - at < piece ? text.length - at : piece;
-        jazhuppe_answer a = jazhuppe_feed(value, JAZHUPPE_SCAN_WORDS, text.at + at, k, ends, k + 9);
+        jazhuppe_answer a = jazhuppe_feed(value, JAZHUPPE_SCAN_WORDS, text.at + at, k, ends, JAZHUPPE_FEED_LIST(k));
         accepted(a.number, "feed");
         add(found, ends, a.count);
     }
-    jazhuppe_answer a = jazhuppe_finish(value, JAZHUPPE_SCAN_WORDS, ends, 9);
+    jazhuppe_answer a = jazhuppe_finish(value, JAZHUPPE_SCAN_WORDS, ends, JAZHUPPE_FINISH_LIST);
     accepted(a.number, "finish");
     add(found, ends, a.count);
 }

@@ -8,9 +8,9 @@ say() {
     printf '\n%s\n' "$1"
 }
 
-say "The plan host/sample.xml has three seats in row A&B, each spelt in its own way:"
+say "The plan host/sample.xml has four seats in row A&B, each spelt in its own way:"
 grep '<seat' host/sample.xml
-say "\$ grep -o '$rule' host/sample.xml       # without decoding, two seats are lost"
+say "\$ grep -o '$rule' host/sample.xml       # without decoding, three seats are lost"
 grep -o "$rule" host/sample.xml
 say "\$ $program -t '$rule' host/sample.xml       # each seat, with the place where it starts"
 "$program" -t "$rule" host/sample.xml || exit

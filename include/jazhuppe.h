@@ -13,8 +13,8 @@
  * stand for both cases.
  *
  * TEXT. Places count decoded bytes: a start is counted from 0, an end is the count of bytes up to and including the
- * occurrence's last. A reference (&amp; &lt; &gt; &apos; &quot; &#38; &#x26; of at most 10 bytes, its number a Char of XML 1.0)
- * is decoded to its UTF-8 bytes, once; anything else stays as it is.
+ * occurrence's last. A reference (&amp; &lt; &gt; &apos; &quot; &#38; &#x26; of at most 32 bytes, leading zeros included, its
+ * number a Char of XML 1.0) is decoded to its UTF-8 bytes, once; anything else stays as it is.
  *
  * LENDER'S DUTIES. A call is lent slices, each a pointer and a length in entries:
  *
@@ -63,8 +63,8 @@ extern "C" {
 #define JAZHUPPE_RULE_MOST 255           /* bytes of a rule */
 #define JAZHUPPE_POSITIONS_MOST 63       /* positions of a rule */
 #define JAZHUPPE_TEXT_MOST 4294967295u   /* bytes of a text, or of all the pieces of a plan */
-#define JAZHUPPE_SCAN_WORDS 273          /* the length of a scan value */
-#define JAZHUPPE_HELD_MOST 9             /* bytes that a scan holds back between pieces */
+#define JAZHUPPE_SCAN_WORDS 268          /* the length of a scan value */
+#define JAZHUPPE_HELD_MOST 31            /* bytes that a scan holds back between pieces */
 
 /* The entries that the list of a feed with a piece of so many bytes needs, and that of a finish. */
 #define JAZHUPPE_FEED_LIST(piece_len) ((piece_len) + JAZHUPPE_HELD_MOST)
@@ -135,12 +135,12 @@ jazhuppe_span jazhuppe_show(const uint8_t *rule, size_t rule_len, uint32_t fold,
  *   260         1 if it is finished, else 0
  *   261         the bytes taken, up to 4,294,967,295
  *   262         the bytes decoded from them
- *   263         how many bytes are held back, at most 9
- *   264 to 272  the bytes held back, each 0 to 255, 0 past their count
+ *   263         how many bytes are held back, at most 31
+ *   264 to 267  the bytes held back: byte j is byte j % 8, the lowest being 0, of number 264 + j / 8; 0 past their count
  *
  * It is impossible (11) when it has another length, over 63 positions or none, a finished field other than 0 or 1, a count
- * or a byte over what its field holds, held bytes that are not a tail that could still grow into a reference, or
- * decoded and held counts that together exceed the bytes taken. Words 0 to 257 and 259 may be any numbers. */
+ * over what its field holds, held bytes that are not a tail that could still grow into a reference, or decoded and held
+ * counts that together exceed the bytes taken. Words 0 to 257, 259 and 264 to 267 may else be any numbers. */
 
 #ifdef __cplusplus
 }

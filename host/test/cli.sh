@@ -111,13 +111,16 @@ holds "--help" [ "$? $(head -n 1 out)" = "0 usage: jazhuppe [-i] [-e | -s | -t] 
 
 # A reference that a piece of 4,096 bytes cuts, at each place in it.
 cut_everywhere() {
-    for before in 4090 4091 4092 4093 4094 4095 4096; do
-        { head -c "$before" /dev/zero | tr '\0' '.'; printf 'A&#38;B'; } > severed
+    before=$((4096 - 1 - ${#1}))
+    while [ "$before" -le 4096 ]; do
+        { head -c "$before" /dev/zero | tr '\0' '.'; printf 'A%sB' "$1"; } > severed
         [ "$("$program" 'A&B' severed)" = "$((before + 3))" ] || return 1
         [ "$("$program" -s 'A&B' severed)" = "$before" ] || return 1
+        before=$((before + 1))
     done
 }
-holds "a reference cut between pieces" cut_everywhere
+holds "a reference cut between pieces" cut_everywhere '&#38;'
+holds "a padded one of 32 bytes" cut_everywhere "&#$(printf '%029d' 38);"
 
 # Output that cannot be written.
 if [ -w /dev/full ]; then

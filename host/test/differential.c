@@ -264,17 +264,23 @@ static void plan_text(const char *s)
         plan_byte((uint8_t)*s++);
 }
 
+/* A reference to the byte; one in four is padded, to about as many bytes as a form may have. */
+static void plan_reference(uint8_t c)
+{
+    int digits = one_in(4) ? 25 + (int)below(7) : 1;
+    char form[48];
+
+    snprintf(form, sizeof form, one_in(2) ? "&#%0*u;" : one_in(2) ? "&#x%0*X;" : "&#x%0*x;", digits, (unsigned)c);
+    plan_text(form);
+}
+
 /* A byte as it is, or spelt as a reference. */
 static void plan_spelt(uint8_t c)
 {
-    char form[16];
-
-    if (!one_in(6)) {
+    if (one_in(6))
+        plan_reference(c);
+    else
         plan_byte(c);
-        return;
-    }
-    snprintf(form, sizeof form, one_in(2) ? "&#%u;" : one_in(2) ? "&#x%X;" : "&#x%03x;", (unsigned)c);
-    plan_text(form);
 }
 
 static uint8_t any_of(const second_position *p)
@@ -305,12 +311,14 @@ static void plan_part(void)
     static const char *const parts[] = {
         "&amp;", "&lt;", "&gt;", "&apos;", "&quot;", "&amp;amp;", "&#38;", "&#x26;", "&#xE9;", "&#0;", "&am", "&", "&#",
         "&#x", "&#12345678", "&#1234567", "&#xD7FF;", "&#xD800;", "&#xFFFE;", "&#x10FFFF;", "&#x110000;", "&#9;",
-        "&#8;", "&#00000038;", "&#0000038;", "&#x000026;", "&#x0000026;", "&AMP;", "&#X26;", "&amp", "&#;", "&#x;",
-        "&&amp;", ";",
+        "&#8;", "&#00000038;", "&#x00000026;", "&AMP;", "&#X26;", "&amp", "&#;", "&#x;", "&&amp;", ";",
+        "&#4294967334;", "&#x10000000000000026;", "&#79228162514264337593543950374;",
     };
 
     if (one_in(3))
         plan_text(parts[below(sizeof parts / sizeof parts[0])]);
+    else if (one_in(8))
+        plan_reference(any_letter());
     else if (one_in(2))
         plan_occurrence();
     else
@@ -423,7 +431,7 @@ static void expected_value(uint64_t *value)
     value[262] = length;
     value[263] = held;
     for (size_t i = 0; i < held; i++)
-        value[264 + i] = plain.taken[plain.length - held + i];
+        value[264 + i / 8] |= (uint64_t)plain.taken[plain.length - held + i] << (8 * (i % 8));
 }
 
 static void hold_value(void)

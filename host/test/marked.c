@@ -5,7 +5,7 @@
 #include "jazhuppe.h"
 #include "testing.h"
 
-enum { MOST = 16, NOT_MARKED = -1 };
+enum { MOST = 64, NOT_MARKED = -1 };
 
 /* A list of places. */
 typedef struct {
@@ -189,6 +189,11 @@ static void decodes(const char *name, const char *plan, const char *text)
     CHECK(decoded(plan, strlen(plan), out) == strlen(text) && memcmp(out, text, strlen(text)) == 0);
 }
 
+static void stays(const char *name, const char *plan)
+{
+    decodes(name, plan, plan);
+}
+
 /* The decoded text occurs in the plan, however it is cut, and ends where it ends. */
 static void occurs(const char *rule, const char *plan, uint32_t end)
 {
@@ -202,12 +207,74 @@ static void test_references(void)
 {
     decodes("M9", "&amp;amp;", "&amp;");
     decodes("M10", "&#xE9;", "\xC3\xA9");
-    decodes("M11", "&#0;", "&#0;");
-    decodes("M11", "&am", "&am");
+    stays("M11", "&#0;");
+    stays("M11", "&am");
     occurs("&amp;", "&amp;amp;", 5);
     occurs("\xC3\xA9", "&#xE9;", 2);
     occurs("&#0;", "&#0;", 4);
     occurs("&am", "&am", 3);
+}
+
+/* A form of so many bytes, padded with zeros to that length. */
+static const char *padded(const char *mark, const char *digits, size_t bytes)
+{
+    static char form[64];
+    size_t front = strlen(mark), back = strlen(digits) + 1;
+
+    memset(form, '0', bytes);
+    memcpy(form, mark, front);
+    memcpy(form + bytes - back, digits, back - 1);
+    form[bytes - 1] = ';';
+    form[bytes] = '\0';
+    return form;
+}
+
+/* Decoded up to 32 bytes, in both bases and wherever it is cut; from 33 on it stays as it came. */
+static void test_padded_forms(void)
+{
+    for (size_t bytes = 8; bytes <= 32; bytes++) {
+        decodes("padded", padded("&#", "38", bytes), "&");
+        decodes("padded", padded("&#x", "e9", bytes), "\xC3\xA9");
+        occurs("&", padded("&#", "38", bytes), 1);
+        occurs("\xC3\xA9", padded("&#x", "e9", bytes), 2);
+        /* Zeros alone: 0 is no Char. */
+        stays("zeros", padded("&#", "0", bytes));
+        stays("zeros", padded("&#x", "0", bytes));
+    }
+    for (size_t bytes = 33; bytes <= 35; bytes++) {
+        stays("too long", padded("&#", "38", bytes));
+        stays("too long", padded("&#x", "e9", bytes));
+        occurs("&#0+38;", padded("&#", "38", bytes), (uint32_t)bytes);
+        occurs("&#x0+e9;", padded("&#x", "e9", bytes), (uint32_t)bytes);
+    }
+}
+
+/* 2^32 + 38, 2^64 + 38 and 2^96 + 38, and the greatest numbers that 32 bytes spell: no Char. */
+static void test_great_numbers(void)
+{
+    static const char *const forms[] = {
+        "&#4294967334;", "&#x100000026;", "&#18446744073709551654;", "&#x10000000000000026;",
+        "&#79228162514264337593543950374;", "&#x0001000000000000000000000026;",
+        "&#99999999999999999999999999999;", "&#xFFFFFFFFFFFFFFFFFFFFFFFFFFFF;",
+    };
+
+    for (size_t i = 0; i < sizeof forms / sizeof forms[0]; i++) {
+        stays("a great number", forms[i]);
+        occurs("&#x?[0-9F]+;", forms[i], (uint32_t)strlen(forms[i]));
+    }
+}
+
+/* "Two finished plans that decode alike, one padded and one short, still get the same ends and starts." */
+static void test_padded_and_short(void)
+{
+    static const char *const plans[] = {"Row A&#0000000038;B 12;", "Row A&#38;B 12;"};
+    const marked *m = &table[MARKED - 1];
+
+    for (size_t i = 0; i < sizeof plans / sizeof plans[0]; i++) {
+        decodes(plans[i], plans[i], m->text);
+        scan_every_way(m->rule, plans[i], &m->ends);
+    }
+    search_marked(m);
 }
 
 static void test_M12(void)
@@ -240,36 +307,57 @@ static void test_scan_words(void)
     }
 }
 
-/* A held tail of JAZHUPPE_HELD_MOST bytes, let through by one more: a feed of one byte reports that many ends. */
-static void test_held_most(void)
+/* A scan for every byte that has taken a tail of JAZHUPPE_HELD_MOST bytes, and holds it back whole. */
+static uint64_t *hold_most(void)
 {
-    const char *tail = "&#1234567";
+    const char *tail = "&#00000000000000000000000000038";
     places none = {0, {0}};
     uint64_t *scan = open_scan(".");
-    uint32_t *list;
-    jazhuppe_answer a;
 
     feed(scan, tail, strlen(tail), &none);
     CHECK(strlen(tail) == JAZHUPPE_HELD_MOST && none.count == 0 && scan[263] == JAZHUPPE_HELD_MOST);
-    list = lend(&list_room, (JAZHUPPE_FEED_LIST(1) - 1) * sizeof *list);
-    a = jazhuppe_feed(scan, JAZHUPPE_SCAN_WORDS, lend_bytes(&text_room, "8", 1), 1, list, JAZHUPPE_FEED_LIST(1) - 1);
+    return scan;
+}
+
+/* Feeds one byte more, with a list one too short and then just long enough: so many ends, and so many bytes held. */
+static void feed_one_more(const char *byte, uint32_t count, uint64_t held)
+{
+    uint64_t *scan = hold_most();
+    uint32_t *list = lend(&list_room, (JAZHUPPE_FEED_LIST(1) - 1) * sizeof *list);
+    const uint8_t *piece = lend_bytes(&text_room, byte, 1);
+    jazhuppe_answer a = jazhuppe_feed(scan, JAZHUPPE_SCAN_WORDS, piece, 1, list, JAZHUPPE_FEED_LIST(1) - 1);
+
+    about("%d bytes held, then %s", JAZHUPPE_HELD_MOST, byte);
     CHECK(a.number == JAZHUPPE_TOO_SHORT && untouched(&list_room));
     list = lend(&list_room, JAZHUPPE_FEED_LIST(1) * sizeof *list);
-    a = jazhuppe_feed(scan, JAZHUPPE_SCAN_WORDS, lend_bytes(&text_room, "8", 1), 1, list, JAZHUPPE_FEED_LIST(1));
-    CHECK(a.number == 0 && a.count == 1 + JAZHUPPE_HELD_MOST);
+    a = jazhuppe_feed(scan, JAZHUPPE_SCAN_WORDS, piece, 1, list, JAZHUPPE_FEED_LIST(1));
+    CHECK(a.number == 0 && a.count == count && scan[263] == held && untouched_past(&list_room, count * sizeof *list));
     for (uint32_t i = 0; i < a.count; i++)
         CHECK(list[i] == i + 1);
 }
 
-/* A finish's list, one too short and just long enough. */
+/* As many bytes held back as may be. A digit more lets all through: a feed of one byte then fills its list. */
+static void test_held_most(void)
+{
+    feed_one_more(";", 1, 0);
+    feed_one_more("0", JAZHUPPE_FEED_LIST(1), 0);
+    feed_one_more("x", JAZHUPPE_FEED_LIST(1), 0);
+    feed_one_more("&", JAZHUPPE_HELD_MOST, 1);
+}
+
+/* A finish's list, one too short and just long enough: it is filled. */
 static void test_finish_list(void)
 {
-    uint64_t *scan = open_scan("a");
+    uint64_t *scan = hold_most();
     uint32_t *list = lend(&list_room, (JAZHUPPE_FINISH_LIST - 1) * sizeof *list);
+    jazhuppe_answer a = jazhuppe_finish(scan, JAZHUPPE_SCAN_WORDS, list, JAZHUPPE_FINISH_LIST - 1);
 
-    CHECK(jazhuppe_finish(scan, JAZHUPPE_SCAN_WORDS, list, JAZHUPPE_FINISH_LIST - 1).number == JAZHUPPE_TOO_SHORT);
+    CHECK(a.number == JAZHUPPE_TOO_SHORT && untouched(&list_room));
     list = lend(&list_room, JAZHUPPE_FINISH_LIST * sizeof *list);
-    CHECK(jazhuppe_finish(scan, JAZHUPPE_SCAN_WORDS, list, JAZHUPPE_FINISH_LIST).number == 0);
+    a = jazhuppe_finish(scan, JAZHUPPE_SCAN_WORDS, list, JAZHUPPE_FINISH_LIST);
+    CHECK(a.number == 0 && a.count == JAZHUPPE_FINISH_LIST);
+    for (uint32_t i = 0; i < a.count; i++)
+        CHECK(list[i] == i + 1);
 }
 
 /* A search's list and a decoder's buffer. */
@@ -366,6 +454,9 @@ static void run_all(void)
     run("M1 to M8 and the lister's example: scan, search, show", test_rows);
     run("the lister's plan, with its reference", test_lister_plan);
     run("M9 to M11: references", test_references);
+    run("padded forms of up to 32 bytes, and longer ones", test_padded_forms);
+    run("numbers over every Char", test_great_numbers);
+    run("a padded plan and a short one", test_padded_and_short);
     run("M12: the empty string is admitted", test_M12);
     run("an empty piece reports no end", test_empty_piece);
     run("the fold flag with each of the 256 bytes", test_fold);

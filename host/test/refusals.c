@@ -171,8 +171,8 @@ static void test_short_scan(void)
     for (size_t piece = 0; piece < 20; piece++)
         for (size_t list = 0; list < JAZHUPPE_FEED_LIST(piece); list++)
             both_refuse(JAZHUPPE_SCAN_WORDS, piece, list, list % JAZHUPPE_FINISH_LIST, JAZHUPPE_TOO_SHORT);
-    ends = lend(&list_room, 10 * sizeof *ends);
-    a = jazhuppe_feed(scan, JAZHUPPE_SCAN_WORDS, lend_bytes(&text_room, "a", 1), 1, ends, 10);
+    ends = lend(&list_room, JAZHUPPE_FEED_LIST(1) * sizeof *ends);
+    a = jazhuppe_feed(scan, JAZHUPPE_SCAN_WORDS, lend_bytes(&text_room, "a", 1), 1, ends, JAZHUPPE_FEED_LIST(1));
     CHECK(a.number == 0 && a.count == 1 && ends[0] == 1 && untouched_past(&list_room, sizeof *ends));
 }
 
@@ -210,7 +210,7 @@ static void test_order_of_scan_calls(void)
     CHECK(same_answer(jazhuppe_feed(scan, JAZHUPPE_SCAN_WORDS, lend(&text_room, 1), 1, lend(&list_room, 0), 0),
                       refusal(JAZHUPPE_TOO_MUCH, 0)));
     /* An empty piece is not over the limit, and a finish never is. */
-    both_refuse(JAZHUPPE_SCAN_WORDS, 0, 8, 8, JAZHUPPE_TOO_SHORT);
+    both_refuse(JAZHUPPE_SCAN_WORDS, 0, JAZHUPPE_FEED_LIST(0) - 1, JAZHUPPE_FINISH_LIST - 1, JAZHUPPE_TOO_SHORT);
 }
 
 /* NULL with length 0, in every place. */

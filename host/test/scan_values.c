@@ -9,7 +9,7 @@
 #include "testing.h"
 
 /* The fields. */
-enum { REPEATS = 256, OPTIONAL, POSITIONS, STATE, FINISHED, RAW, DECODED, HELD, HELD_BYTES };
+enum { REPEATS = 256, OPTIONAL, POSITIONS, STATE, FINISHED, RAW, DECODED, HELD, HELD_WORDS };
 enum { WORDS = JAZHUPPE_SCAN_WORDS, HELD_MOST = JAZHUPPE_HELD_MOST };
 
 
@@ -47,12 +47,25 @@ static void usual(uint64_t *value)
     value[RAW] = value[DECODED] = 100;
 }
 
+/* Eight held bytes to a word, the first lowest. */
+static uint8_t held_byte(const uint64_t *value, size_t j)
+{
+    return (uint8_t)(value[HELD_WORDS + j / 8] >> (8 * (j % 8)));
+}
+
+static void put_held_byte(uint64_t *value, size_t j, uint8_t c)
+{
+    uint64_t *word = &value[HELD_WORDS + j / 8];
+
+    *word = (*word & ~((uint64_t)0xFF << (8 * (j % 8)))) | (uint64_t)c << (8 * (j % 8));
+}
+
 static void hold(uint64_t *value, const char *tail)
 {
     value[HELD] = strlen(tail);
     value[DECODED] = value[RAW] - value[HELD];
-    for (size_t i = 0; i < value[HELD] && i < HELD_MOST; i++)
-        value[HELD_BYTES + i] = (uint8_t)tail[i];
+    for (size_t j = 0; j < value[HELD] && HELD_WORDS + j / 8 < WORDS; j++)
+        put_held_byte(value, j, (uint8_t)tail[j]);
 }
 
 /* Sets one field of a possible value to a number that it cannot hold. */
@@ -73,7 +86,7 @@ static void test_fields(void)
     field_refused(POSITIONS, 0);
     field_refused(POSITIONS, 64);
     field_refused(FINISHED, 2);
-    field_refused(HELD, 10);
+    field_refused(HELD, HELD_MOST + 1);
     field_refused(DECODED, 101);
     field_refused(RAW, 99);
     for (size_t i = 0; i < sizeof over / sizeof over[0]; i++) {
@@ -84,10 +97,21 @@ static void test_fields(void)
         field_refused(DECODED, over[i] | 100);
         field_refused(HELD, over[i]);
     }
-    for (size_t j = 0; j < HELD_MOST; j++) {
-        field_refused(HELD_BYTES + j, 256);
-        field_refused(HELD_BYTES + j, UINT64_MAX);
-    }
+}
+
+/* A held word holds any number: past the held bytes any others may stand, and they count for nothing. */
+static void test_held_words(void)
+{
+    uint64_t value[WORDS];
+
+    usual(value);
+    for (size_t i = HELD_WORDS; i < WORDS; i++)
+        value[i] = UINT64_MAX;
+    finishes(value);
+    hold(value, "&am");
+    finishes(value);
+    hold(value, "&#x0000000000000000000000000026");
+    finishes(value);
 }
 
 /* decoded + held is over the count taken, or would wrap round to less. */
@@ -110,11 +134,13 @@ static void test_held_bytes(void)
 {
     static const char *const tails[] = {
         "&", "&a", "&am", "&amp", "&ap", "&apo", "&apos", "&l", "&lt", "&g", "&gt", "&q", "&qu", "&quo", "&quot",
-        "&#", "&#0", "&#1234567", "&#x", "&#xD800", "&#xaBcDeF",
+        "&#", "&#0", "&#1234567", "&#x", "&#xD800", "&#xaBcDeF", "&#00000000000000000000000000038",
+        "&#x0000000000000000000000000026", "&#99999999999999999999999999999", "&#xFFFFFFFFFFFFFFFFFFFFFFFFFFFF",
     };
     static const char *const others[] = {
-        "a", "a&", "&amp;", "&A", "&ax", "&&", "&#x1;", "&#;", "&#X", "&#12a", "&#xG", "&#12345678", "&lt;", "&b", ";",
-        "&x",
+        "a", "a&", "&amp;", "&A", "&ax", "&&", "&#x1;", "&#;", "&#X", "&#12a", "&#xG", "&lt;", "&b", ";", "&x",
+        "&#000000000000000000000000000038", "&#x00000000000000000000000000026", "&#0000000000000000000000000003;",
+        "&#0000000000000000000000000003a", "&00amp",
     };
     uint64_t value[WORDS];
 
@@ -185,7 +211,7 @@ static size_t stepped(uint64_t *value, const uint8_t *piece, size_t length, bool
     size_t taken = value[HELD], held, decoded, count = 0;
 
     for (size_t i = 0; i < taken; i++)
-        raw[i] = (uint8_t)value[HELD_BYTES + i];
+        raw[i] = held_byte(value, i);
     memcpy(raw + taken, piece, length);
     taken += length;
     held = finish ? 0 : second_held(raw, taken);
@@ -199,8 +225,8 @@ static size_t stepped(uint64_t *value, const uint8_t *piece, size_t length, bool
     value[RAW] += length;
     value[DECODED] += decoded;
     value[HELD] = held;
-    for (size_t i = 0; i < HELD_MOST; i++)
-        value[HELD_BYTES + i] = i < held ? raw[taken - held + i] : 0;
+    for (size_t i = 0; i <= HELD_MOST; i++)
+        put_held_byte(value, i, i < held ? raw[taken - held + i] : 0);
     return count;
 }
 
@@ -221,7 +247,7 @@ static uint64_t random_mask(random_source *r)
 
 static void random_value(random_source *r, uint64_t *value)
 {
-    static const char *const tails[] = {"", "", "&", "&am", "&#", "&#1234567", "&#x1F60", "&quot"};
+    static const char *const tails[] = {"", "", "&", "&am", "&#", "&#00000000000000000000000000038", "&#x1F60", "&quot"};
 
     memset(value, 0, WORDS * sizeof *value);
     for (size_t c = 0; c < 256; c++)
@@ -230,21 +256,22 @@ static void random_value(random_source *r, uint64_t *value)
     value[OPTIONAL] = random_mask(r);
     value[POSITIONS] = 1 + random_below(r, 63);
     value[STATE] = random_mask(r);
-    value[RAW] = 20 + random_below(r, random_below(r, 2) == 0 ? 100 : 4000000000u);
+    value[RAW] = 40 + random_below(r, random_below(r, 2) == 0 ? 100 : 4000000000u);
     hold(value, tails[random_below(r, 8)]);
     value[DECODED] -= random_below(r, (uint32_t)value[DECODED]);
     /* Past the held bytes any byte may stand. */
-    for (size_t i = value[HELD]; i < HELD_MOST; i++)
-        value[HELD_BYTES + i] = random_below(r, 256);
+    for (size_t i = value[HELD]; i <= HELD_MOST; i++)
+        put_held_byte(value, i, (uint8_t)random_below(r, 256));
 }
 
 static size_t random_piece(random_source *r, uint8_t *piece)
 {
-    static const char *const parts[] = {"&amp;", "&", "&#", "38;", "amp;", "x26;", "&#x1F600;", ";", "&#12345678"};
+    static const char *const parts[] = {"&amp;", "&", "&#", "38;", "amp;", "x26;", "&#x1F600;", ";", "&#00000000000000000000000000038",
+                                        "0000000000000000000038;"};
     size_t length = 0, most = random_below(r, 80);
 
     while (length < most) {
-        const char *part = parts[random_below(r, 9)];
+        const char *part = parts[random_below(r, sizeof parts / sizeof parts[0])];
 
         if (random_below(r, 3) == 0 && length + strlen(part) <= most) {
             memcpy(piece + length, part, strlen(part));
@@ -299,6 +326,7 @@ int main(void)
     text_room = lent_room(256);
     list_room = lent_room(1024);
     run("11: each field with a number that it cannot hold", test_fields);
+    run("a held word with any number", test_held_words);
     run("11: decoded and held counts over the count taken", test_counts);
     run("11: held bytes that are not such a tail; 12 before them where they are", test_held_bytes);
     run("11: every other length", test_lengths);

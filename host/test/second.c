@@ -229,7 +229,7 @@ second_rule second_read(const uint8_t *rule, size_t rule_len, uint32_t fold)
 
 static const char *const names[] = {"&amp;", "&lt;", "&gt;", "&apos;", "&quot;"};
 static const char name_bytes[] = "&<>'\"";
-enum { NAMES = 5, FORM_MOST = 10 };
+enum { NAMES = 5, FORM_MOST = 32 };
 
 static int digit_value(uint8_t c, int base)
 {
@@ -245,11 +245,12 @@ static bool is_char(uint32_t n)
            (n >= 65536 && n <= 1114111);
 }
 
-/* The number of the form that these bytes, the ; included, are; or 0, which is no Char. */
+/* The number of the form that these bytes, the ; included, are; or 0, which is no Char. Eight digits after the zeros in
+ * front are over every Char. */
 static uint32_t form_number(const uint8_t *s, size_t n)
 {
     uint32_t value = 0;
-    size_t i = 2;
+    size_t i = 2, digits = 0;
     int base = 10;
 
     for (int k = 0; k < NAMES; k++)
@@ -268,9 +269,11 @@ static uint32_t form_number(const uint8_t *s, size_t n)
 
         if (d < 0)
             return 0;
-        value = value * (uint32_t)base + (uint32_t)d;
+        digits += digits > 0 || d > 0;
+        if (digits < 8)
+            value = value * (uint32_t)base + (uint32_t)d;
     }
-    return value;
+    return digits < 8 ? value : 0;
 }
 
 static size_t put_utf8(uint32_t n, uint8_t *out)

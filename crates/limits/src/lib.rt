@@ -7,10 +7,10 @@ pub const RULE_LIMIT: usize = 255;
 // "A rule has at most 63" positions.
 pub const POSITION_LIMIT: u32 = 63;
 
-// "at most 10 bytes from `&` to `;`".
-pub const FORM_LIMIT: usize = 10;
+// "at most 32 bytes from `&` to `;`, leading zeros included".
+pub const FORM_LIMIT: usize = 32;
 
-// "at most 9 bytes" are held back between pieces: one less than a form has.
+// "at most 31 bytes" are held back between pieces: one less than a form has.
 pub const HELD_MOST: usize = FORM_LIMIT - 1;
 
 // "more than 4,294,967,295 bytes in the text, or in all the pieces" are refused.

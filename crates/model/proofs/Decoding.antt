@@ -327,7 +327,7 @@ decode-shorter limit (c ∷ cs) zero l = go (referenceAt limit (c ∷ cs)) refl 
 pub decode-length : (limit : ℕ) (cs : List ℕ) → length (decode limit cs) ≤ length cs
 decode-length limit cs = let r = decode-shorter limit cs 0 (omega arith) in omega arith
 
--- "at most 9 bytes": less than the limit.
+-- "at most 31 bytes": less than the limit.
 pub growing-length : (limit : ℕ) (h : List ℕ) → T (canGrow limit h) → length h < limit
 growing-length limit h t =
     let g = grow-into limit h t in

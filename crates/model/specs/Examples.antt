@@ -3,7 +3,7 @@
 use mathlib.Core.Path.{_≡_, refl}
 use mathlib.Core.Bool.{Bool, true, false, _&&_}
 use mathlib.Core.List.{List, [], _∷_, _++_, map}
-use Prim.Native.Nat.{ℕ}
+use Prim.Native.Nat.{ℕ, zero, suc}
 use lib.Dec.{T, eqb}
 use lib.ListN.{length, replicate}
 use Rattle.model.specs.Ascii.{ascii}
@@ -104,7 +104,7 @@ elements = refl
 turned-last : (kindSet true (class true (record { low = 97; high = 97 } ∷ [])) 97 ≡ false) × (kindSet true (class true (record { low = 97; high = 97 } ∷ [])) 65 ≡ false)
 turned-last = (refl, refl)
 
-folded : reportedEnds (plainScan 256 (ascii "rOw") (feed (ascii "Row row rov") 20 ∷ finish 9 ∷ [])) ≡ 3 ∷ 7 ∷ []
+folded : reportedEnds (plainScan 256 (ascii "rOw") (feed (ascii "Row row rov") 42 ∷ finish 31 ∷ [])) ≡ 3 ∷ 7 ∷ []
 folded = refl
 
 -- "bytes 65 to 90 and 97 to 122 move by 32, every other byte is itself": at the edges of both alphabets, and bytes that `c ^ 32` or bounds of seven bits
@@ -116,19 +116,24 @@ own-cases : T (same (map otherCase (0 ∷ 32 ∷ 64 ∷ 91 ∷ 96 ∷ 123 ∷ 19
 own-cases = tt
 
 -- "`*` .. both"
-starred : reportedEnds (plainScan 0 (ascii "ab*c") (feed (ascii "ac abbc") 20 ∷ finish 9 ∷ [])) ≡ 2 ∷ 7 ∷ []
+starred : reportedEnds (plainScan 0 (ascii "ab*c") (feed (ascii "ac abbc") 38 ∷ finish 31 ∷ [])) ≡ 2 ∷ 7 ∷ []
 starred = refl
 
 -- ---- references
 
 data Raw : Type 0 where
   decodes : (raw text : List ℕ) → Raw
+  stays : (raw : List ℕ) → Raw
   holds : (raw tail : List ℕ) → Raw
   letsOut : (raw text : List ℕ) → Raw
+
+abbrev zeros : ℕ → List ℕ
+zeros n = replicate n 48
 
 abbrev rawHolds : List Raw → Bool
 rawHolds [] = true
 rawHolds (decodes raw text ∷ rs) = same text (decode formLimit raw) && rawHolds rs
+rawHolds (stays raw ∷ rs) = same raw (decode formLimit raw) && rawHolds rs
 rawHolds (holds raw tail ∷ rs) = same tail (heldTail formLimit raw) && rawHolds rs
 rawHolds (letsOut raw text ∷ rs) = same text (letOut formLimit raw) && rawHolds rs
 
@@ -136,33 +141,48 @@ references : T (rawHolds (
     decodes (ascii "&lt;&gt;&amp;&apos;&quot;") (ascii "<>&'\"")
     ∷ decodes (ascii "&#38;#60;") (ascii "&#60;")
     ∷ decodes (ascii "&#x10FFFF;") (244 ∷ 143 ∷ 191 ∷ 191 ∷ [])
-    ∷ decodes (ascii "&#x110000;") (ascii "&#x110000;")
+    ∷ stays (ascii "&#x110000;")
     ∷ decodes (ascii "&#65536;&#65535;") ((240 ∷ 144 ∷ 128 ∷ 128 ∷ []) ++ ascii "&#65535;")
     ∷ decodes (ascii "&#xFf;&#xaA;") (195 ∷ 191 ∷ 194 ∷ 170 ∷ [])
-    ∷ decodes (ascii "&#xG;&#xg;&#x@;&#x`;&#x:;&#x/;&#:;&#/;") (ascii "&#xG;&#xg;&#x@;&#x`;&#x:;&#x/;&#:;&#/;")
+    ∷ stays (ascii "&#xG;&#xg;&#x@;&#x`;&#x:;&#x/;&#:;&#/;")
     ∷ decodes (ascii "&#xD7FF;") (237 ∷ 159 ∷ 191 ∷ [])
-    ∷ decodes (ascii "&#xd800;&#xDFFF;") (ascii "&#xd800;&#xDFFF;")
+    ∷ stays (ascii "&#xd800;&#xDFFF;")
     ∷ decodes (ascii "&#xE000;&#xFFFD;") (238 ∷ 128 ∷ 128 ∷ 239 ∷ 191 ∷ 189 ∷ [])
-    ∷ decodes (ascii "&#xFFFE;&#xFFFF;") (ascii "&#xFFFE;&#xFFFF;")
+    ∷ stays (ascii "&#xFFFE;&#xFFFF;")
     ∷ decodes (ascii "&#9;&#10;&#13;&#32;") (9 ∷ 10 ∷ 13 ∷ 32 ∷ [])
-    ∷ decodes (ascii "&#8;&#11;&#31;") (ascii "&#8;&#11;&#31;")
-    ∷ decodes (ascii "&#X26;&AMP;&#;&#x;") (ascii "&#X26;&AMP;&#;&#x;")
-    ∷ decodes (ascii "&#0000038;&#00000038;") (ascii "&&#00000038;")  -- ten bytes, and eleven
+    ∷ stays (ascii "&#8;&#11;&#31;")
+    ∷ stays (ascii "&#X26;&AMP;&#;&#x;")
+    ∷ decodes (ascii "&#0000000038;&#x00000026;&#0000065;") (ascii "&&A")  -- "leading zeros included"
+    ∷ decodes (ascii "&#" ++ zeros 26 ++ ascii "38;" ++ ascii "&#x" ++ zeros 25 ++ ascii "26;") (ascii "&&")  -- 31 bytes each
+    ∷ decodes (ascii "&#" ++ zeros 27 ++ ascii "38;" ++ ascii "&#x" ++ zeros 26 ++ ascii "26;") (ascii "&&")  -- 32 bytes each
+    ∷ stays (ascii "&#" ++ zeros 28 ++ ascii "38;" ++ ascii "&#x" ++ zeros 27 ++ ascii "26;")  -- 33 bytes each
+    ∷ decodes (ascii "&#x" ++ zeros 22 ++ ascii "10FFFF;") (244 ∷ 143 ∷ 191 ∷ 191 ∷ [])
+    ∷ stays (ascii "&#" ++ zeros 29 ++ ascii ";&#x" ++ zeros 28 ++ ascii ";")  -- zeros alone: 0 is no Char
+    ∷ stays (ascii "&#0004294967334;&#x000100000026;")  -- 2 ^ 32 + 38: the number is that of all digits
+    ∷ stays (ascii "&#18446744073709551654;&#x10000000000000026;")  -- 2 ^ 64 + 38
+    ∷ stays (ascii "&#79228162514264337593543950374;&#x0001000000000000000000000026;")  -- 2 ^ 96 + 38, 32 bytes each
+    ∷ stays (ascii "&#" ++ replicate 29 57 ++ ascii ";&#x" ++ replicate 28 70 ++ ascii ";")  -- the greatest numbers of 32 bytes
+    ∷ stays (ascii "&00amp;&0amp;&#0x26;&#x0x26;")  -- zeros pad a number alone
     ∷ decodes (ascii "&&amp;&am&amp;&") (ascii "&&&am&&")
     ∷ decodes
     (replicate 31 97 ++ ascii "&amp;" ++ replicate 32 98 ++ ascii "&#xE9;" ++ replicate 33 99 ++ ascii "&lt;")
     (replicate 31 97 ++ ascii "&" ++ replicate 32 98 ++ (195 ∷ 169 ∷ []) ++ replicate 33 99 ++ ascii "<")
     ∷ holds (ascii "a&am") (ascii "&am")
     ∷ holds (ascii "&#xD800") (ascii "&#xD800")
-    ∷ holds (ascii "&#12345678") []  -- ten bytes: no room for the `;`
-    ∷ holds (ascii "&#1234567") (ascii "&#1234567")
+    ∷ holds (ascii "a&#" ++ replicate 29 57) (ascii "&#" ++ replicate 29 57)  -- 31 bytes, by spelling alone
+    ∷ holds (ascii "&#" ++ zeros 30) []  -- 32 bytes: no room for the `;`
+    ∷ holds (ascii "a&#x" ++ zeros 28) (ascii "&#x" ++ zeros 28)
+    ∷ holds (ascii "&#x" ++ zeros 29) []
+    ∷ holds (ascii "&#" ++ zeros 29 ++ ascii "&") (ascii "&")
     ∷ holds (ascii "&&") (ascii "&")
     ∷ holds (ascii "&amp;") []
     ∷ holds (ascii "&ax") []
     ∷ letsOut (ascii "a&lt;&am") (ascii "a<")
     ∷ letsOut (ascii "&am" ++ ascii "p;b") (ascii "&b")  -- `&am` was held: a reference is completed
     ∷ letsOut (ascii "&am" ++ ascii "b&") (ascii "&amb")  -- it goes out as it came
-    ∷ letsOut (ascii "&#1234567" ++ ascii "8") (ascii "&#12345678")
+    ∷ letsOut (ascii "&#" ++ zeros 27 ++ ascii "38" ++ ascii ";") (ascii "&")  -- 31 were held
+    ∷ letsOut (ascii "&#" ++ zeros 27 ++ ascii "38" ++ ascii "0") (ascii "&#" ++ zeros 27 ++ ascii "380")
+    ∷ letsOut (ascii "&#" ++ zeros 27 ++ ascii "38" ++ ascii "&") (ascii "&#" ++ zeros 27 ++ ascii "38")
     ∷ []
     ))
 unfolding utf8
@@ -195,25 +215,28 @@ lister = (refl, refl, refl, refl, refl)
 
 -- "Forgetting held bytes at a cut inside `&amp;`": the plan in two pieces, cut there, with a feed that is refused for its short list between them, an
 -- empty piece, and calls after the finish.
-cut-plan : plainScan 0 rule (feed (ascii "Row A&a") 16 ∷ feed (ascii "x") 9 ∷ feed [] 9 ∷ feed (ascii "mp;B 12;") 17 ∷ finish 8 ∷ finish 9 ∷ feed [] 9 ∷ finish 9 ∷ [])
+cut-plan : plainScan 0 rule (feed (ascii "Row A&a") 38 ∷ feed (ascii "x") 31 ∷ feed [] 31 ∷ feed (ascii "mp;B 12;") 39 ∷ finish 30 ∷ finish 31 ∷ feed [] 31 ∷ finish 31 ∷ [])
     ≡ reported [] ∷ refused 9 ∷ reported [] ∷ reported (9 ∷ 10 ∷ []) ∷ refused 9 ∷ reported [] ∷ refused 12 ∷ refused 12 ∷ []
 unfolding utf8
 cut-plan = refl
 
--- A feed of one byte that reports ten ends, and a finish that lets nine through.
-ten-ends : plainScan 0 (ascii ".") (feed (ascii "&#1234567") 18 ∷ feed (ascii "8") 10 ∷ feed (ascii "&#1234567") 18 ∷ finish 9 ∷ [])
-    ≡ reported []
-    ∷ reported (1 ∷ 2 ∷ 3 ∷ 4 ∷ 5 ∷ 6 ∷ 7 ∷ 8 ∷ 9 ∷ 10 ∷ [])
-    ∷ reported []
-    ∷ reported (11 ∷ 12 ∷ 13 ∷ 14 ∷ 15 ∷ 16 ∷ 17 ∷ 18 ∷ 19 ∷ [])
-    ∷ []
-ten-ends = refl
+-- A feed of one byte that reports 32 ends, and a finish that lets 31 bytes through, with lists exactly long enough.
+abbrev most : List ℕ
+most = ascii "&#" ++ zeros 29
+
+abbrev risingFrom : (from n : ℕ) → List ℕ
+risingFrom from zero = []
+risingFrom from (suc n) = from ∷ risingFrom (suc from) n
+
+ends-of-31-held : plainScan 0 (ascii ".") (feed most 62 ∷ feed (ascii "0") 31 ∷ feed (ascii "0") 32 ∷ feed most 62 ∷ finish 31 ∷ [])
+    ≡ reported [] ∷ refused 9 ∷ reported (risingFrom 1 32) ∷ reported [] ∷ reported (risingFrom 33 31) ∷ []
+ends-of-31-held = refl
 
 -- ---- scan calls: 12 before 10 before 9, and the edges
 refusals : (refusalFor formLimit true 4294967295 1 0 ≡ 12)
     × (refusalFor formLimit false 4294967295 1 0 ≡ 10)
-    × (refusalFor formLimit false 4294967295 0 8 ≡ 9)
-    × (refusalFor formLimit false 4294967294 1 10 ≡ 0)
+    × (refusalFor formLimit false 4294967295 0 30 ≡ 9)
+    × (refusalFor formLimit false 4294967294 1 32 ≡ 0)
 refusals = (refl, refl, refl, refl)
 
 -- ---- whole-text calls: 10 before 9, and the edges of both

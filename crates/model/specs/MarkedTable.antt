@@ -1,5 +1,5 @@
--- Document 01, "Marked table": M1 to M12 as one list of cases, what it is for them to hold, and that they do. Each text goes through the plain scan too.
--- Assumes nothing.
+-- Document 01, "Marked table": M1 to M12 as one list of cases, and the two plans of note 4, one padded and one short; what it is for them to hold, and that
+-- they do. Each text goes through the plain scan too. Assumes nothing.
 use mathlib.Core.Bool.{Bool, true, false, _&&_}
 use mathlib.Core.List.{List, [], _∷_}
 use Prim.Native.Nat.{ℕ, _+_}
@@ -18,6 +18,7 @@ pub data Count : Type 0 where
 
 pub data Case : Type 0 where
   finds : (rule text : List ℕ) (ends starts : List ℕ) (windows : Count) → Case
+  reads : (rule raw : List ℕ) (ends starts : List ℕ) → Case
   decodes : (raw text : List ℕ) → Case
   refuses : (rule : List ℕ) (number place : ℕ) → Case
 
@@ -47,6 +48,7 @@ abbrev pub holds : Case → Bool
 holds (finds rule text e s w) =
     let ps = rulePositions false rule in
     isAccepted (parse false rule) && same e (ends ps text) && same e (fed rule text) && same s (starts ps text) && counts w (length (windows ps text))
+holds (reads rule raw e s) = isAccepted (parse false rule) && same e (fed rule raw) && same s (starts (rulePositions false rule) (decode formLimit raw))
 holds (decodes raw text) = same text (decode formLimit raw)
 holds (refuses rule number place) = isRefused (parse false rule) number place
 
@@ -69,6 +71,8 @@ table =
     ∷ decodes (ascii "&#0;") (ascii "&#0;")  -- M11
     ∷ decodes (ascii "&am") (ascii "&am")
     ∷ refuses (ascii "a?") 8 2  -- M12
+    ∷ reads (ascii "Row A&B [0-9]+") (ascii "Row A&#0000000038;B 12;") (9 ∷ 10 ∷ []) (0 ∷ [])  -- note 4, padded
+    ∷ reads (ascii "Row A&B [0-9]+") (ascii "Row A&#38;B 12;") (9 ∷ 10 ∷ []) (0 ∷ [])  -- and short
     ∷ []
 
 -- The theorem: they all hold.

@@ -39,7 +39,7 @@ abbrev pub listOf : Call → ℕ
 listOf (feed piece n) = n
 listOf (finish n) = n
 
--- "Needed lengths: .. feed list, the piece's length plus 9; finish list, 9."
+-- "Needed lengths: .. feed list, the piece's length plus 31; finish list, 31."
 abbrev pub needed : (limit piece : ℕ) → ℕ
 needed limit piece = piece + heldMost limit
 

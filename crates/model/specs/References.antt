@@ -9,11 +9,11 @@ use Rattle.model.specs.Ascii.{byteOf, ascii}
 use Rattle.model.specs.Occurrence.{all}
 use Rattle.model.specs.RuleText.{isDecimal}
 
--- "at most 10 bytes from `&` to `;`"
+-- "at most 32 bytes from `&` to `;`, leading zeros included"
 abbrev pub formLimit : ℕ
-formLimit = 10
+formLimit = 32
 
--- "at most 9 bytes" are held back: a form lacks one byte at least.
+-- "at most 31 bytes" are held back: a form lacks one byte at least.
 abbrev pub heldMost : (limit : ℕ) → ℕ
 heldMost limit = limit - 1
 

@@ -38,7 +38,8 @@ pub struct Resolved {
 }
 
 // The held bytes and the first of the piece, together as many as a form has at most. With nothing
-// held, it takes up what a piece leaves open.
+// held, it takes up what a piece leaves open. (The loop goes over the piece: one of a count that is
+// known would be unrolled whole.)
 pub fn top_up(h: Held, piece: &[u8]) -> Held
     requires { ⌜ h .len ≤ heldMost formLimit ⌝ }
     ensures { λ r. ⌜ TopUpIs h (now (piece .entry)) r ⌝ }
@@ -46,8 +47,8 @@ pub fn top_up(h: Held, piece: &[u8]) -> Held
     let mut t = h.bytes;
     let mut n = h.len;
     let mut i = 0;
-    while n < FORM_LIMIT {
-        if i == piece.len() {
+    while i < piece.len() {
+        if n == FORM_LIMIT {
             return Held { bytes: t, len: n };
         }
         t[n] = piece[i];

@@ -1,12 +1,11 @@
 -- What the checks of a plan's part find. On plain values. Assumes nothing.
-use mathlib.Core.Path.{_≡_, refl, sym, ap, subst, _∙_}
-use mathlib.Core.Bool.{Bool, true, false, _&&_, true≢false}
+use mathlib.Core.Path.{_≡_, refl, sym, ap, _∙_}
+use mathlib.Core.Bool.{Bool, true, false, true≢false}
 use mathlib.Core.List.{List, [], _∷_}
-use Prim.Native.Nat.{ℕ, suc, _+_, _-_, _≤_, _<_}
-use native.Mathlib.Decide.{decLt}
+use Prim.Native.Nat.{ℕ, _+_, _≤_, _<_}
 use native.Mathlib.Omega.{arith}
 use lib.Dec.{ltb, leb}
-use lib.ListN.{length, take, getD}
+use lib.ListN.{length, take}
 use lib.Seq.{length-take-le}
 use borrow.Author.Tests.{ltb-false, lt-ltb, le-ltb, le-leb, lt-leb}
 use Rattle.model.specs.RefusalNumbers.{tooShort, tooMuch, alreadyFinished}
@@ -22,53 +21,7 @@ use Rattle.reference_reader.specs.Reader.{ReadIs}
 use Rattle.piece_decoder.specs.Held.{heldOf}
 use Rattle.model.proofs.Cuts.{held-open}
 use Rattle.reference_reader.proofs.Readings.{decoded-told, literal-told, incomplete-told}
-use Rattle.plan_part.specs.PlanPart.{planLength, heldAt, byteMost, finishedOf, rawOf, decodedOf, heldCountOf, heldBytesOf, isTail, bytesFrom, possiblePlan, PlanPossibleIs, BytesFit, LoadFine, LoadIs, HeldFits, planRefusal, PlanRefusedIs}
-
--- ---- `bytes_fit`
-
--- as many held fields as there are
-abbrev most : ℕ
-most = heldMost formLimit
-
-pub record Fitting (s : List ℕ) (j : ℕ) : Type 0 where
-  pub few : j ≤ most
-  pub rest : bytesFrom (most - j) j s ≡ bytesFrom most 0 s
-  pub below : (k : ℕ) → k < j → getD s (heldAt + k) 0 ≤ byteMost
-
-module _ (s : List ℕ) where
-  pub fitting : Fitting s 0
-  fitting = record { few = omega arith; rest = refl; below = λ k h. absurd (omega arith) }
-
-  module _ {j : ℕ} (g : Fitting s j) where
-    one : j < most → bytesFrom (most - j) j s ≡ leb (getD s (heldAt + j) 0) byteMost && bytesFrom (most - (j + 1)) (j + 1) s
-    unfolding bytesFrom
-    one h = let k : most - j ≡ suc (most - (j + 1)) = omega arith in ap (λ (n : ℕ). bytesFrom n j s) k
-
-    pub fit-turn : j < most → getD s (heldAt + j) 0 ≤ byteMost → Fitting s (j + 1)
-    fit-turn h e =
-        record {
-          few = omega arith;
-          rest = sym (one h ∙ ap (λ (b : Bool). b && bytesFrom (most - (j + 1)) (j + 1) s) (le-leb (getD s (heldAt + j) 0) byteMost e)) ∙ g .rest;
-          below = λ k l. under k l (decLt k j);
-        }
-      where
-        under : (k : ℕ) → k < j + 1 → Dec (k < j) → getD s (heldAt + k) 0 ≤ byteMost
-        under k l (yes m) = g .below k m
-        under k l (no m) = let q : k ≡ j = omega arith in subst (λ (i : ℕ). getD s (heldAt + i) 0 ≤ byteMost) (sym q) (omega arith)
-
-    pub not-fit : j < most → byteMost < getD s (heldAt + j) 0 → BytesFit s false
-    not-fit h e =
-        record {
-          is = sym (sym (g .rest) ∙ one h ∙ ap (λ (b : Bool). b && bytesFrom (most - (j + 1)) (j + 1) s) (lt-leb (getD s (heldAt + j) 0) byteMost e));
-          says = λ z. absurd (true≢false (sym z));
-        }
-
-    pub all-fit : most ≤ j → BytesFit s true
-    unfolding bytesFrom
-    all-fit h =
-        let f = g .few in
-        let k : most - j ≡ 0 = omega arith in
-        record { is = sym (ap (λ (n : ℕ). bytesFrom n j s) k) ∙ g .rest; says = λ z i l. g .below i (omega arith) }
+use Rattle.plan_part.specs.PlanPart.{planLength, finishedOf, rawOf, decodedOf, heldCountOf, heldBytesOf, isTail, possiblePlan, PlanPossibleIs, LoadFine, LoadIs, HeldFits, planRefusal, PlanRefusedIs}
 
 -- ---- `tail_fits`
 
@@ -133,23 +86,18 @@ module _ (p : List ℕ) where
           unfolding possiblePlan
           counts-over z = impossible (simp (le-leb _ _ e, le-leb _ _ f, le-leb _ _ g, le-leb _ _ h, lt-leb _ _ z))
 
-          module _ (i : decodedOf p + heldCountOf p ≤ rawOf p) (k : Bool) (x : BytesFit p k) where
-            pub bytes-over : k ≡ false → PlanPossibleIs p false
+          module _ (i : decodedOf p + heldCountOf p ≤ rawOf p) (a : length p ≡ planLength) where
+            pub can-load : LoadFine p
+            can-load = record { long = a; few = h }
+
+            pub by-tail : (l : Held) → LoadIs p l → (r : Bool) → r ≡ isTail (heldOf l) → PlanPossibleIs p r
             unfolding possiblePlan
-            bytes-over z = impossible (simp (le-leb _ _ e, le-leb _ _ f, le-leb _ _ g, le-leb _ _ h, le-leb _ _ i) (rw (← x .is, z)))
-
-            module _ (a : length p ≡ planLength) where
-              pub can-load : k ≡ true → LoadFine p
-              can-load z = record { long = a; few = h; bytes = x .says z }
-
-              pub by-tail : k ≡ true → (l : Held) → LoadIs p l → (r : Bool) → r ≡ isTail (heldOf l) → PlanPossibleIs p r
-              unfolding possiblePlan
-              by-tail z l y r q =
-                  let t : r ≡ isTail (heldBytesOf p) = q ∙ ap isTail (y .is) in
-                  record {
-                    is = simp (le-leb _ _ e, le-leb _ _ f, le-leb _ _ g, le-leb _ _ h, le-leb _ _ i) (rw (← x .is, z) t);
-                    says = λ y. record { long = a; raw = f; sum = i; few = h; bytes = x .says z; tail = is-tail (heldBytesOf p) (sym t ∙ y) };
-                  }
+            by-tail l y r q =
+                let t : r ≡ isTail (heldBytesOf p) = q ∙ ap isTail (y .is) in
+                record {
+                  is = simp (le-leb _ _ e, le-leb _ _ f, le-leb _ _ g, le-leb _ _ h, le-leb _ _ i) t;
+                  says = λ y. record { long = a; raw = f; sum = i; few = h; tail = is-tail (heldBytesOf p) (sym t ∙ y) };
+                }
 
 module _ (p : List ℕ) (m n : ℕ) where
   nonzero : (k : ℕ) → (k ≡ 0 → ⊥) → k ≡ planRefusal p m n → PlanRefusedIs p m n k

@@ -2,8 +2,8 @@
 -- stored. Assumes nothing.
 use mathlib.Core.Path.{_≡_}
 use mathlib.Core.Bool.{Bool, true, _&&_}
-use mathlib.Core.List.{List, [], _∷_}
-use Prim.Native.Nat.{ℕ, zero, suc, _+_, _≤_, _<_}
+use mathlib.Core.List.{List, [], _∷_, _++_}
+use Prim.Native.Nat.{ℕ, zero, suc, _+_, _*_, _/_, _%_, _^_, _≤_, _<_}
 use lib.Dec.{leb, ltb}
 use lib.ListN.{length, getD, take, drop}
 use Rattle.model.specs.NumberedAnswers.{textLimit}
@@ -30,8 +30,12 @@ heldCountAt = decodedAt + 1
 abbrev pub heldAt : ℕ
 heldAt = heldCountAt + 1
 
+-- eight held bytes to a word
+abbrev pub heldWords : ℕ
+heldWords = (heldMost formLimit + 7) / 8
+
 abbrev pub planLength : ℕ
-planLength = heldAt + heldMost formLimit
+planLength = heldAt + heldWords
 
 abbrev pub finishedOf : List ℕ → ℕ
 finishedOf p = getD p finishedAt 0
@@ -45,31 +49,35 @@ decodedOf p = getD p decodedAt 0
 abbrev pub heldCountOf : List ℕ → ℕ
 heldCountOf p = getD p heldCountAt 0
 
+-- held byte j: byte j mod 8, the lowest being 0, of held word j / 8
+abbrev pub heldByteOf : List ℕ → ℕ → ℕ
+heldByteOf p j = getD p (heldAt + j / 8) 0 / 2 ^ (8 * (j % 8)) % 256
+
+-- the first n of them
+abbrev pub firstHeldOf : List ℕ → (n : ℕ) → List ℕ
+firstHeldOf p zero = []
+firstHeldOf p (suc n) = firstHeldOf p n ++ (heldByteOf p n ∷ [])
+
 abbrev pub heldBytesOf : List ℕ → List ℕ
-heldBytesOf p = take (heldCountOf p) (drop heldAt p)
+heldBytesOf p = firstHeldOf p (heldCountOf p)
 
 -- ---- how it is written
 
--- n held fields: the bytes, and 0 past them
-unfoldable pub slots : (n : ℕ) → List ℕ → List ℕ
-slots zero h = []
-slots (suc n) [] = 0 ∷ slots n []
-slots (suc n) (c ∷ h) = c ∷ slots n h
+-- bytes as one number, the first of them its lowest byte
+abbrev pub wordOf : List ℕ → ℕ
+wordOf [] = 0
+wordOf (c ∷ cs) = c + 256 * wordOf cs
+
+-- n held words: the bytes, eight to each, and 0 past them
+unfoldable pub wordsOf : (n : ℕ) → List ℕ → List ℕ
+wordsOf zero h = []
+wordsOf (suc n) h = wordOf (take 8 h) ∷ wordsOf n (drop 8 h)
 
 -- all its fields
 unfoldable pub planFields : (finished raw decoded : ℕ) (held : List ℕ) → List ℕ
-planFields finished raw decoded held = finished ∷ raw ∷ decoded ∷ length held ∷ slots (heldMost formLimit) held
+planFields finished raw decoded held = finished ∷ raw ∷ decoded ∷ length held ∷ wordsOf heldWords held
 
 -- ---- impossible parts
-
--- the greatest byte
-abbrev pub byteMost : ℕ
-byteMost = 255
-
--- n held fields from number j on hold bytes
-unfoldable pub bytesFrom : (n j : ℕ) → List ℕ → Bool
-bytesFrom zero j p = true
-bytesFrom (suc n) j p = leb (getD p (heldAt + j) 0) byteMost && bytesFrom n (j + 1) p
 
 -- "its held bytes, if any, are .. such a tail": all of them can still grow into a form
 unfoldable pub isTail : List ℕ → Bool
@@ -77,7 +85,7 @@ isTail [] = true
 isTail (c ∷ cs) = canGrow formLimit (c ∷ cs)
 
 -- "A scan value is impossible when .. its held bytes, if any, are not such a tail, or decoded plus held counts exceed the raw count, or, lent as a slice, it
--- has .. a number that its field cannot hold."
+-- has .. a number that its field cannot hold." (A held word holds any number: eight bytes.)
 unfoldable pub possiblePlan : List ℕ → Bool
 possiblePlan p =
     leb (finishedOf p) 1
@@ -85,8 +93,7 @@ possiblePlan p =
     && (leb (decodedOf p) textLimit
     && (leb (heldCountOf p) (heldMost formLimit)
     && (leb (decodedOf p + heldCountOf p) (rawOf p)
-    && (bytesFrom (heldMost formLimit) 0 p
-    && isTail (heldBytesOf p))))))
+    && isTail (heldBytesOf p)))))
 
 -- What holds of a possible part.
 pub record PlanPossible (p : List ℕ) : Type 0 where
@@ -94,22 +101,22 @@ pub record PlanPossible (p : List ℕ) : Type 0 where
   pub raw : rawOf p ≤ textLimit
   pub sum : decodedOf p + heldCountOf p ≤ rawOf p
   pub few : heldCountOf p ≤ heldMost formLimit
-  pub bytes : (j : ℕ) → j < heldMost formLimit → getD p (heldAt + j) 0 ≤ byteMost
   pub tail : heldTail formLimit (heldBytesOf p) ≡ heldBytesOf p
 
 pub record PlanPossibleIs (p : List ℕ) (r : Bool) : Type 0 where
   pub is : r ≡ possiblePlan p
   pub says : r ≡ true → PlanPossible p
 
--- `bytes_fit`, `load`; and held bytes that a part can hold
-pub record BytesFit (p : List ℕ) (r : Bool) : Type 0 where
-  pub is : r ≡ bytesFrom (heldMost formLimit) 0 p
-  pub says : r ≡ true → (j : ℕ) → j < heldMost formLimit → getD p (heldAt + j) 0 ≤ byteMost
+-- ---- held bytes that are loaded, and stored
+
+-- `loaded_byte`, `load`
+pub record BytePlace (p : List ℕ) (j : ℕ) : Type 0 where
+  pub long : length p ≡ planLength
+  pub few : j < heldMost formLimit
 
 pub record LoadFine (p : List ℕ) : Type 0 where
   pub long : length p ≡ planLength
   pub few : heldCountOf p ≤ heldMost formLimit
-  pub bytes : (j : ℕ) → j < heldMost formLimit → getD p (heldAt + j) 0 ≤ byteMost
 
 pub record LoadIs (p : List ℕ) (r : Held) : Type 0 where
   pub is : heldOf r ≡ heldBytesOf p
@@ -117,9 +124,28 @@ pub record LoadIs (p : List ℕ) (r : Held) : Type 0 where
   pub few : r .len ≤ heldMost formLimit
   pub long : length (r .bytes) ≡ formLimit
 
+-- held bytes that a part can hold
 pub record HeldFits (h : Held) : Type 0 where
   pub long : length (h .bytes) ≡ formLimit
   pub few : h .len ≤ heldMost formLimit
+
+-- `wide`, `held_byte`
+pub record Widened (c r : ℕ) : Type 0 where
+  pub is : r ≡ c
+  pub small : r < 256
+
+pub record HeldByteIs (h : Held) (j r : ℕ) : Type 0 where
+  pub is : r ≡ getD (heldOf h) j 0
+  pub small : r < 256
+
+-- `pack_four`, `pack_eight`: n bytes from the held byte j on, as one number
+pub record PackFine (h : Held) (j n : ℕ) : Type 0 where
+  pub fits : HeldFits h
+  pub within : j + n ≤ 8 * heldWords
+
+pub record Packed (h : Held) (j n r : ℕ) : Type 0 where
+  pub is : r ≡ wordOf (take n (drop j (heldOf h)))
+  pub small : r < 2 ^ (8 * n)
 
 -- ---- refused calls
 

@@ -2,11 +2,10 @@
 // held back. It knows no rule, so that one such part serves any number of them.
 ghost use mathlib.Core.Path.{_≡_};
 ghost use Prim.Native.Nat.{_<_, _^_};
-ghost use lib.ListN.{length, getD};
+ghost use lib.ListN.{length};
 ghost use lib.Seq.{sets};
-ghost use Rattle.model.specs.References.{formLimit, heldMost};
 ghost use Rattle.piece_decoder.specs.Held.{heldOf};
-ghost use Rattle.plan_part.specs.PlanPart.{planLength, heldAt, isTail, BytesFit, LoadFine, LoadIs, PlanPossibleIs, PlanPossible, PlanRefusedIs, HeldFits, slots, planFields};
+ghost use Rattle.plan_part.specs.PlanPart.{planLength, heldAt, heldWords, heldByteOf, isTail, BytePlace, LoadFine, LoadIs, PlanPossibleIs, PlanPossible, PlanRefusedIs, HeldFits, Widened, HeldByteIs, PackFine, Packed, wordsOf, planFields};
 use limits::FORM_LIMIT;
 use limits::HELD_MOST;
 use piece_decoder::held::Held;
@@ -22,27 +21,21 @@ pub const HELD: usize = DECODED + 1;
 
 pub const HELD_BYTES: usize = HELD + 1;
 
-pub const LENGTH: usize = HELD_BYTES + HELD_MOST;
+// Eight held bytes to a word.
+const HELD_WORDS: usize = (HELD_MOST + 7) / 8;
+
+pub const LENGTH: usize = HELD_BYTES + HELD_WORDS;
 
 // The limit as a word.
 const TEXT_LIMIT: u64 = limits::TEXT_LIMIT as u64;
 
-// The greatest byte.
-const BYTE_MOST: u64 = 255;
-
-// Whether each held field holds a byte.
-fn bytes_fit(part: &[u64]) -> bool
-    requires { ⌜ length (now part) ≡ planLength ⌝ }
-    ensures { λ r. ⌜ BytesFit (now (part .entry)) r ⌝ }
+// Held byte j: byte j mod 8, the lowest being 0, of held word j / 8.
+fn loaded_byte(part: &[u64], j: usize) -> u8
+    requires { ⌜ BytePlace (now part) j ⌝ }
+    ensures { λ r. ⌜ r ≡ heldByteOf (now (part .entry)) j ⌝ }
 {
-    let mut j = 0;
-    while j < HELD_MOST {
-        if part[HELD_BYTES + j] > BYTE_MOST {
-            return false;
-        }
-        j += 1;
-    }
-    true
+    let w = part[HELD_BYTES + j / 8];
+    ((w >> (8 * (j % 8))) % 256) as u8
 }
 
 // The held bytes.
@@ -54,7 +47,7 @@ pub fn load(part: &[u64]) -> Held
     let mut t = [0u8; FORM_LIMIT];
     let mut j = 0;
     while j < n {
-        t[j] = part[HELD_BYTES + j] as u8;
+        t[j] = loaded_byte(part, j);
         j += 1;
     }
     Held { bytes: t, len: n }
@@ -104,12 +97,8 @@ pub fn possible(part: &[u64]) -> bool
     if part[DECODED] + part[HELD] > part[RAW] {
         return false;
     }
-    let fit = bytes_fit(part);
-    if fit {
-        let h = load(part);
-        return tail_fits(h);
-    }
-    false
+    let h = load(part);
+    tail_fits(h)
 }
 
 // The number of the refusal of a call with a piece and a list of these lengths, or 0.
@@ -132,30 +121,62 @@ pub fn refused(part: &[u64], piece: usize, list: usize) -> u32
     0
 }
 
-// A held field: the byte, or 0 past the held bytes.
-fn held_word(h: Held, j: usize) -> u64
+// A byte as a word.
+fn wide(c: u8) -> u64
+    ensures { λ r. ⌜ Widened c r ⌝ }
+{
+    c as u64
+}
+
+// The held byte j, or 0 past them.
+fn held_byte(h: Held, j: usize) -> u64
     requires { ⌜ HeldFits h ⌝ }
-    ensures { λ r. ⌜ r ≡ getD (heldOf h) j 0 ⌝ }
+    ensures { λ r. ⌜ HeldByteIs h j r ⌝ }
 {
     let n = h.len;
     if j < n {
         let t = h.bytes;
-        return t[j] as u64;
+        return wide(t[j]);
     }
     0
 }
 
-// Writes the held fields.
+// Four held bytes as one number, the first lowest.
+fn pack_four(h: Held, j: usize) -> u64
+    requires { ⌜ PackFine h j 4 ⌝ }
+    ensures { λ r. ⌜ Packed h j 4 r ⌝ }
+{
+    let a = held_byte(h, j);
+    let b = held_byte(h, j + 1);
+    let c = held_byte(h, j + 2);
+    let d = held_byte(h, j + 3);
+    a + 256 * b + 65536 * c + 16777216 * d
+}
+
+// Eight of them. Mostly there are none.
+fn pack_eight(h: Held, j: usize) -> u64
+    requires { ⌜ PackFine h j 8 ⌝ }
+    ensures { λ r. ⌜ Packed h j 8 r ⌝ }
+{
+    if j >= h.len {
+        return 0;
+    }
+    let low = pack_four(h, j);
+    let high = pack_four(h, j + 4);
+    low + 4294967296 * high
+}
+
+// Writes the held words.
 fn store_held(part: &mut [u64], h: Held)
     requires { ⌜ length (now part) ≡ planLength ⌝ }
     requires { ⌜ HeldFits h ⌝ }
-    ensures { λ r. ⌜ now (part .exit) ≡ sets (now (part .entry)) heldAt (slots (heldMost formLimit) (heldOf h)) ⌝ }
+    ensures { λ r. ⌜ now (part .exit) ≡ sets (now (part .entry)) heldAt (wordsOf heldWords (heldOf h)) ⌝ }
 {
-    let mut j = 0;
-    while j < HELD_MOST {
-        let w = held_word(h, j);
-        part[HELD_BYTES + j] = w;
-        j += 1;
+    let mut k = 0;
+    while k < HELD_WORDS {
+        let w = pack_eight(h, 8 * k);
+        part[HELD_BYTES + k] = w;
+        k += 1;
     }
 }
 

@@ -3,7 +3,7 @@
 use mathlib.Core.Path.{_≡_, refl, sym, ap, ap₂, subst, _∙_}
 use mathlib.Core.Bool.{Bool, true, false, cond}
 use mathlib.Core.List.{List, [], _∷_, _++_, append-nil}
-use Prim.Native.Nat.{ℕ, zero, suc, _+_, _≤_}
+use Prim.Native.Nat.{ℕ, zero, suc, _+_, _≤_, _<_}
 use native.Mathlib.Numerals.{add-one}
 use native.Mathlib.Omega.{arith}
 use lib.Dec.{eqb, ltb, nltb→le, ltb→lt}
@@ -29,7 +29,7 @@ use Rattle.rule_table.proofs.Encoded.{table-entry}
 use Rattle.scan_piece.specs.Feeding.{textOf, tailOf}
 use Rattle.rule_part.specs.RulePart.{tableLength, automatonOfRule, stateOf}
 use Rattle.rule_part.proofs.RuleFields.{rule-possible, fields-automaton, fields-state}
-use Rattle.plan_part.specs.PlanPart.{byteMost, finishedOf, rawOf, decodedOf, heldBytesOf, planFields, planRefusal}
+use Rattle.plan_part.specs.PlanPart.{finishedOf, rawOf, decodedOf, heldBytesOf, planFields, planRefusal}
 use Rattle.plan_part.proofs.Readback.{fields-long as plan-fields-long, fields-finished, fields-raw, fields-decoded, fields-held, fields-possible}
 use Rattle.scan_value.specs.Value.{scanLength, ruleOf, planOf, positionsIn, automatonIn, stateIn, finishedIn, rawIn, decodedIn, heldIn, possible, numberFor}
 use Rattle.scan_value.proofs.Readback.{value-rule, value-plan, value-possible, written-automaton, written-state, written-finished, written-raw, written-decoded, written-held, written-long, written-possible}
@@ -41,9 +41,9 @@ use Rattle.scan_open.proofs.Opens.{opening-long, value-length}
 
 -- ---- bytes, tails, sizes
 
-bytes-below : (xs : List ℕ) → Bytes xs → (i : ℕ) → getD xs i 0 ≤ byteMost
+bytes-below : (xs : List ℕ) → Bytes xs → (i : ℕ) → getD xs i 0 < 256
 bytes-below [] b i = omega arith
-bytes-below (x ∷ xs) b zero = let l = ltb→lt x 256 (and-left (isByte x) (all isByte xs) b) in omega arith
+bytes-below (x ∷ xs) b zero = ltb→lt x 256 (and-left (isByte x) (all isByte xs) b)
 bytes-below (x ∷ xs) b (suc i) = bytes-below xs (and-right (isByte x) (all isByte xs) b) i
 
 bytes-append : (xs ys : List ℕ) → Bytes xs → Bytes ys → Bytes (xs ++ ys)
@@ -163,7 +163,7 @@ module _ (A : Automaton) (some : 1 ≤ A .top) (few : A .top ≤ positionLimit) 
         let by = after-bytes s (x .bytes) c b in
         let sum = after-sum s (x .sum) c in
         let o = out-is s (k .held) (x .held) c in
-        let hd : heldIn (after s c) ≡ H = written-held s (x .long) D F R C H short in
+        let hd : heldIn (after s c) ≡ H = written-held s (x .long) D F R C H short (bytes-below H by) in
         let r = written-raw s (x .long) D F R C H in
         let d = written-decoded s (x .long) D F R C H in
         record {
@@ -264,7 +264,7 @@ module _ (ps : List Position) where
     opening-mirrors : Mirrors (automatonFor ps) some few (openingOf ps) (opened (openingState (automatonFor ps)))
     unfolding flagNumber
     opening-mirrors =
-        let none : heldIn (openingOf ps) ≡ [] = ap heldBytesOf opening-plan ∙ fields-held 0 0 0 [] (omega arith) in
+        let none : heldIn (openingOf ps) ≡ [] = ap heldBytesOf opening-plan ∙ fields-held 0 0 0 [] (omega arith) (λ i. omega arith) in
         let decoded : decodedIn (openingOf ps) ≡ 0 = ap decodedOf opening-plan ∙ fields-decoded 0 0 0 [] in
         record {
           long = value-length ps;

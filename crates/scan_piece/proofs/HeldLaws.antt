@@ -20,7 +20,7 @@ use Rattle.scan_piece.specs.declared.Fed.{Fed}
 use Rattle.scan_piece.specs.Feeding.{textOf, tailOf, Stepped, RestIs, Holds, RestFed, FedIs}
 use Rattle.scan_piece.proofs.Steps.{stepped-none, stepped-append}
 
--- "at most 9 bytes" are held, so a buffer for a form takes them all
+-- "at most 31 bytes" are held, so a buffer for a form takes them all
 tail-few : (xs : List ℕ) → length (tailOf xs) ≤ heldMost formLimit
 unfolding tailOf
 tail-few xs = held-length formLimit xs
@@ -49,7 +49,7 @@ module _ (A : Automaton) (g : Progress) (piece : List ℕ) (from : ℕ) (ends : 
         few = omega (arith, ap length tl, length-drop (r .kept) piece);
       }
 
--- ---- `feed_bytes`
+-- ---- `feed_held`
 
 module _ (h : Held) (piece : List ℕ) (x : Resolved) (cr : ResolvedIs h piece x) where
   h-long : length (heldOf h) ≡ h .len
@@ -116,3 +116,15 @@ module _ (A : Automaton) (g : Progress) (h : Held) (piece ends : List ℕ) (x : 
           held = record { is = c .is ∙ sym (c .holds); size = z ∙ ap length (sym (c .holds)); few = c .fine .few; long = j .long };
           few = omega (arith, ap length o, length-append (heldOf h) piece, h-long h piece x cr);
         }
+
+-- ---- `feed_bytes`
+
+module _ (A : Automaton) (g : Progress) (h : Held) (piece ends : List ℕ) where
+  pub fed-fresh : h .len ≡ 0 → (r : Fed) (ends′ : List ℕ) → RestFed A g piece 0 ends r ends′ → FedIs A g h piece ends r ends′
+  fed-fresh e r ends′ w =
+      let z : heldOf h ++ piece ≡ piece = ap (λ (n : ℕ). take n (h .bytes) ++ piece) e in
+      record {
+        steps = subst (λ (l : List ℕ). Stepped A g (textOf l) ends (r .state) ends′) (sym z) (w .steps);
+        held = subst (λ (l : List ℕ). Holds (r .held) (tailOf l)) (sym z) (w .held);
+        few = let f = w .few in omega (arith, ap (λ (l : List ℕ). length (textOf l)) z);
+      }

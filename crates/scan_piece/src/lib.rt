@@ -224,9 +224,10 @@ fn feed_rest(
 
 // A piece after held bytes: these become a reference with its head, or are let out as they came, or all
 // is held back still.
-pub fn feed_bytes(
+fn feed_held(
     table: &[u64],
     masks: Masks,
+    filter: Prefilter,
     g: Progress,
     h: Held,
     piece: &[u8],
@@ -236,9 +237,9 @@ pub fn feed_bytes(
     requires { ⌜ HeldFine h ⌝ }
     requires { ⌜ g .count + h .len + length (now piece) ≤ length (now ends) ⌝ }
     requires { ⌜ g .at + h .len + length (now piece) < 2 ^ 32 ⌝ }
+    requires { ⌜ PrefilterSound (now table) (masks .repeats) (masks .optional) (masks .top) filter ⌝ }
     ensures { λ r. ⌜ FedIs (automatonOf (now (table .entry)) masks) g h (now (piece .entry)) (now (ends .entry)) r (now (ends .exit)) ⌝ }
 {
-    let filter = prefilter::choose(table, masks.repeats, masks.optional, masks.top, piece.len());
     let x = piece_decoder::held::resolve_held(h, piece);
     let case = x.case;
     match case {
@@ -257,4 +258,27 @@ pub fn feed_bytes(
             return Fed { state: g, held: j };
         }
     }
+}
+
+// The same, with a prefilter for the rule. Mostly nothing is held.
+pub fn feed_bytes(
+    table: &[u64],
+    masks: Masks,
+    g: Progress,
+    h: Held,
+    piece: &[u8],
+    ends: &mut [u32],
+) -> Fed
+    requires { ⌜ TableFits (now table) masks ⌝ }
+    requires { ⌜ HeldFine h ⌝ }
+    requires { ⌜ g .count + h .len + length (now piece) ≤ length (now ends) ⌝ }
+    requires { ⌜ g .at + h .len + length (now piece) < 2 ^ 32 ⌝ }
+    ensures { λ r. ⌜ FedIs (automatonOf (now (table .entry)) masks) g h (now (piece .entry)) (now (ends .entry)) r (now (ends .exit)) ⌝ }
+{
+    let filter = prefilter::choose(table, masks.repeats, masks.optional, masks.top, piece.len());
+    let n = h.len;
+    if n == 0 {
+        return feed_rest(table, masks, filter, g, piece, 0, ends);
+    }
+    feed_held(table, masks, filter, g, h, piece, ends)
 }

@@ -77,7 +77,7 @@ module _ (s : List ℕ) (q : Possible s) where
   lent-possible = subst PlanPossible (sym (plan-lent s (q .long))) (q .plan)
 
   pub loadable : LoadFine (lent s)
-  loadable = let p = lent-possible in record { long = p .long; few = p .few; bytes = p .bytes }
+  loadable = let p = lent-possible in record { long = p .long; few = p .few }
 
   pub loaded : (h : Held) → LoadIs (lent s) h → LoadIs (planOf s) h
   loaded h x = subst (λ (p : List ℕ). LoadIs p h) (plan-lent s (q .long)) x

@@ -2,7 +2,7 @@
 use mathlib.Core.Path.{_≡_, sym, ap, ap₂, _∙_}
 use mathlib.Core.Bool.{true}
 use mathlib.Core.List.{List, _++_}
-use Prim.Native.Nat.{ℕ, _+_, _-_, _≤_}
+use Prim.Native.Nat.{ℕ, _+_, _-_, _≤_, _<_}
 use native.Mathlib.Omega.{arith}
 use lib.ListN.{length, getD, set, length-append, length-set}
 use lib.Seq.{take-at, drop-at, take-set-lt}
@@ -14,7 +14,7 @@ use Rattle.model.specs.References.{formLimit, heldMost, heldTail}
 use Rattle.model.proofs.LentLists.{put-rest}
 use Rattle.rule_part.specs.RulePart.{ruleLength, stateAt, withState, automatonOfRule, stateOf, possibleRule}
 use Rattle.rule_part.proofs.RuleFields.{rule-possible, state-long, state-automaton, state-count, state-is}
-use Rattle.plan_part.specs.PlanPart.{planLength, byteMost, finishedOf, rawOf, decodedOf, heldBytesOf, planFields, possiblePlan}
+use Rattle.plan_part.specs.PlanPart.{planLength, finishedOf, rawOf, decodedOf, heldBytesOf, planFields, possiblePlan}
 use Rattle.plan_part.proofs.Readback.{fields-long, fields-finished, fields-raw, fields-decoded, fields-held, fields-possible}
 use Rattle.scan_value.specs.Value.{scanLength, ruleOf, planOf, positionsIn, automatonIn, stateIn, finishedIn, rawIn, decodedIn, heldIn, possible, written}
 use Rattle.scan_value.proofs.Checks.{rule-long, plan-long, plan-lent}
@@ -65,15 +65,15 @@ module _ (s : List ℕ) (long : length s ≡ scanLength) (d f r c : ℕ) (h : Li
   pub written-decoded : decodedIn (written s d f r c h) ≡ c
   written-decoded = ap decodedOf written-plan ∙ fields-decoded f r c h
 
-  module _ (few : length h ≤ heldMost formLimit) where
+  module _ (few : length h ≤ heldMost formLimit) (b : (i : ℕ) → getD h i 0 < 256) where
     pub written-held : heldIn (written s d f r c h) ≡ h
-    written-held = ap heldBytesOf written-plan ∙ fields-held f r c h few
+    written-held = ap heldBytesOf written-plan ∙ fields-held f r c h few b
 
     -- A value so written is possible again.
-    pub written-possible : ((i : ℕ) → getD h i 0 ≤ byteMost) → heldTail formLimit h ≡ h → 1 ≤ positionsIn s → positionsIn s ≤ positionLimit → f ≤ 1 → r ≤ textLimit
-        → c + length h ≤ r → possible (written s d f r c h) ≡ true
+    pub written-possible : heldTail formLimit h ≡ h → 1 ≤ positionsIn s → positionsIn s ≤ positionLimit → f ≤ 1 → r ≤ textLimit → c + length h ≤ r
+        → possible (written s d f r c h) ≡ true
     unfolding written
-    written-possible b t some most one raw sum =
+    written-possible t some most one raw sum =
         let n = state-count (ruleOf s) d in
         value-possible (withState (ruleOf s) d) (planFields f r c h) state-part (fields-long f r c h)
         (rule-possible (withState (ruleOf s) d) (omega arith) (omega arith))

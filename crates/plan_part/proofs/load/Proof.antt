@@ -1,7 +1,6 @@
 -- `plan_part::load` meets its contract.
-use native.Mathlib.Omega.{arith}
 use Prim.Native.Nat.{_-_}
-use Rattle.plan_part.proofs.Fields.{Loading, loading, load-turn, loaded}
+use Rattle.plan_part.proofs.Fields.{Loading, loading, byte-place, load-turn, loaded}
 use borrow.Author.Needs.{needs}
 use Rattle.plan_part.proofs.load.Statement.{statement}
 use Rattle.plan_part.proofs.load.Tie as tie
@@ -18,21 +17,8 @@ shared-slice-read-n c = search needs
 loop-holds : tie.Need-loop-holds Inv-loop μ-loop
 loop-holds c = search loading
 
-add-t : tie.Need-add-t Inv-loop μ-loop
-add-t c = search needs
-
-mul-t : tie.Need-mul-t Inv-loop μ-loop
-mul-t c = search needs
-
-shared-slice-read-t : tie.Need-shared-slice-read-t Inv-loop μ-loop
-shared-slice-read-t c = search needs
-
-cast-t : tie.Need-cast-t Inv-loop μ-loop
-cast-t c =
-    let f = c .before .before .before .before .pre in
-    let h = c .before .loop-test .taken in
-    let b = f .bytes (c .before .before .loop .j) (omega (arith, f .few)) in
-    omega arith
+loaded-byte-requires : tie.Need-loaded-byte-requires Inv-loop μ-loop
+loaded-byte-requires c κs = search byte-place
 
 array-write-t : tie.Need-array-write-t Inv-loop μ-loop
 array-write-t c = search needs
@@ -57,10 +43,7 @@ load-spec =
     μ-loop
     shared-slice-read-n
     loop-holds
-    add-t
-    mul-t
-    shared-slice-read-t
-    cast-t
+    loaded-byte-requires
     array-write-t
     add-j
     loop-less

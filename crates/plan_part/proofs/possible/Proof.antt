@@ -1,5 +1,5 @@
 -- `plan_part::possible` meets its contract.
-use Rattle.plan_part.proofs.Checks.{finished-over, raw-over, decoded-over, held-over, counts-over, can-load, by-tail, bytes-over}
+use Rattle.plan_part.proofs.Checks.{finished-over, raw-over, decoded-over, held-over, counts-over, can-load, by-tail}
 use borrow.Author.Needs.{needs}
 use Rattle.plan_part.proofs.possible.Statement.{statement}
 use Rattle.plan_part.proofs.possible.Tie as tie
@@ -43,9 +43,6 @@ shared-slice-read-if5-3 c = search needs
 returns-5 : tie.Need-returns-5
 returns-5 c = search counts-over
 
-bytes-fit-requires : tie.Need-bytes-fit-requires
-bytes-fit-requires c κs = search needs
-
 load-requires : tie.Need-load-requires
 load-requires c κs = search can-load
 
@@ -54,9 +51,6 @@ tail-fits-requires c κs = search needs
 
 returns-6 : tie.Need-returns-6
 returns-6 c = search by-tail
-
-returns-7 : tie.Need-returns-7
-returns-7 c = search bytes-over
 
 pub possible-spec : {M : Type 1} → statement M
 possible-spec =
@@ -75,8 +69,6 @@ possible-spec =
     add-if5
     shared-slice-read-if5-3
     returns-5
-    bytes-fit-requires
     load-requires
     tail-fits-requires
-    returns-6
-    returns-7)
+    returns-6)

@@ -1,23 +1,25 @@
 -- `plan_part::store_held` meets its contract.
 use Prim.Native.Nat.{_-_}
-use Rattle.model.specs.References.{formLimit, heldMost}
-use Rattle.piece_decoder.specs.Held.{heldOf}
-use Rattle.plan_part.proofs.Fields.{Storing, storing, store-turn, stored}
+use Rattle.plan_part.proofs.Fields.{Storing, storing, pack-fine, store-turn, stored}
+use Rattle.plan_part.specs.PlanPart.{heldWords}
 use borrow.Author.Needs.{needs}
 use Rattle.plan_part.proofs.store_held.Statement.{statement}
 use Rattle.plan_part.proofs.store_held.Tie as tie
 
 abbrev Inv-loop : tie.InvT-loop
-Inv-loop part₀ h j₀ part j = Storing part₀ (heldOf h) part j
+Inv-loop part₀ h k₀ part k = Storing part₀ h part k
 
 abbrev μ-loop : tie.MeasureT-loop
-μ-loop part₀ h j₀ part j = heldMost formLimit - j
+μ-loop part₀ h k₀ part k = heldWords - k
 
 loop-holds : tie.Need-loop-holds Inv-loop μ-loop
 loop-holds c = search storing
 
-held-word-requires : tie.Need-held-word-requires Inv-loop μ-loop
-held-word-requires c κs = search needs
+mul-pack-eight : tie.Need-mul-pack-eight Inv-loop μ-loop
+mul-pack-eight c = search needs
+
+pack-eight-requires : tie.Need-pack-eight-requires Inv-loop μ-loop
+pack-eight-requires c κs = search pack-fine
 
 add-part : tie.Need-add-part Inv-loop μ-loop
 add-part c = search needs
@@ -28,8 +30,8 @@ mul-part c = search needs
 slice-write-part : tie.Need-slice-write-part Inv-loop μ-loop
 slice-write-part c = search needs
 
-add-j : tie.Need-add-j Inv-loop μ-loop
-add-j c = search needs
+add-k : tie.Need-add-k Inv-loop μ-loop
+add-k c = search needs
 
 loop-less : tie.Need-loop-less Inv-loop μ-loop
 loop-less c = search needs
@@ -50,11 +52,12 @@ store-held-spec =
     Inv-loop
     μ-loop
     loop-holds
-    held-word-requires
+    mul-pack-eight
+    pack-eight-requires
     add-part
     mul-part
     slice-write-part
-    add-j
+    add-k
     loop-less
     loop-again
     same-length
