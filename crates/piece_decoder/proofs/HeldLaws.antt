@@ -49,23 +49,25 @@ module _ (h : Held) (piece : List ℕ) where
     size-is = let l = g .long in let f = g .few in sym (length-take-le n t (omega arith))
 
     -- the piece is at its end
-    pub topped-short : length piece ≤ i → TopUpIs h piece (record { bytes = t; len = n })
-    topped-short m =
+    pub topped-short : n < formLimit → i ≡ length piece → TopUpIs h piece (record { bytes = t; len = n })
+    topped-short k e =
+        let m : length piece ≤ i = omega arith in
         let d : drop i piece ≡ [] = drop-of-length-le piece m in
         let z : take (formLimit - n) (drop i piece) ≡ [] = ap (take (formLimit - n)) d ∙ take-all (formLimit - n) [] (omega arith) in
         record { is = sym (append-nil (take n t)) ∙ ap (λ (l : List ℕ). take n t ++ l) (sym z) ∙ g .is; long = g .long; few = g .few; size = size-is; held = g .held }
 
     -- the array is full
-    pub topped-full : n ≡ formLimit → TopUpIs h piece (record { bytes = t; len = n })
+    pub topped-full : formLimit ≤ n → TopUpIs h piece (record { bytes = t; len = n })
     topped-full k =
         let f = g .few in
         let e : formLimit - n ≡ 0 = omega arith in
         record { is = sym (append-nil (take n t)) ∙ ap (λ (k : ℕ). take n t ++ take k (drop i piece)) (sym e) ∙ g .is; long = g .long; few = f; size = size-is; held = g .held }
 
-    pub top-up-turn : i < length piece → (n ≡ formLimit → ⊥) → Topping h piece (set t n (getD piece i 0)) (n + 1) (i + 1)
-    top-up-turn lt e =
+    pub top-up-turn : n < formLimit → (i ≡ length piece → ⊥) → Topping h piece (set t n (getD piece i 0)) (n + 1) (i + 1)
+    top-up-turn k e =
+        let w = g .within in
         let l = g .long in
-        let f = g .few in
+        let lt : i < length piece = omega arith in
         let m : formLimit - n ≡ suc (formLimit - suc n) = omega arith in
         let q : take (formLimit - n) (drop i piece) ≡ getD piece i 0 ∷ take (formLimit - suc n) (drop (suc i) piece) =
         ap (λ (k : ℕ). take k (drop i piece)) m ∙ ap (take (suc (formLimit - suc n))) (drop-cons piece i 0 lt) in

@@ -38,8 +38,7 @@ pub struct Resolved {
 }
 
 // The held bytes and the first of the piece, together as many as a form has at most. With nothing
-// held, it takes up what a piece leaves open. (The loop goes over the piece: one of a count that is
-// known would be unrolled whole.)
+// held, it takes up what a piece leaves open.
 pub fn top_up(h: Held, piece: &[u8]) -> Held
     requires { ⌜ h .len ≤ heldMost formLimit ⌝ }
     ensures { λ r. ⌜ TopUpIs h (now (piece .entry)) r ⌝ }
@@ -47,8 +46,8 @@ pub fn top_up(h: Held, piece: &[u8]) -> Held
     let mut t = h.bytes;
     let mut n = h.len;
     let mut i = 0;
-    while i < piece.len() {
-        if n == FORM_LIMIT {
+    while n < FORM_LIMIT {
+        if i == piece.len() {
             return Held { bytes: t, len: n };
         }
         t[n] = piece[i];

@@ -12,7 +12,7 @@ abbrev Inv-loop : tie.InvT-loop
 Inv-loop piece t₀ n₀ i₀ t n i = Topping (record { bytes = t₀; len = n₀ }) piece t n i
 
 abbrev μ-loop : tie.MeasureT-loop
-μ-loop piece t₀ n₀ i₀ t n i = length piece - i
+μ-loop piece t₀ n₀ i₀ t n i = formLimit - n
 
 -- the array has room for a whole form
 long : (c : tie.After-t Inv-loop μ-loop) → length (c .before .args .h .bytes) ≡ formLimit
@@ -22,7 +22,7 @@ loop-holds : tie.Need-loop-holds Inv-loop μ-loop
 loop-holds c = let l = long c in search topping
 
 returns : tie.Need-returns Inv-loop μ-loop
-returns c = topped-full _ _ (c .before .before .loop .inv) (c .if1 .taken)
+returns c = search topped-short
 
 shared-slice-read-t : tie.Need-shared-slice-read-t Inv-loop μ-loop
 shared-slice-read-t c = search needs
@@ -43,7 +43,7 @@ loop-again : tie.Need-loop-again Inv-loop μ-loop
 loop-again c = search top-up-turn
 
 returns-2 : tie.Need-returns-2 Inv-loop μ-loop
-returns-2 c = topped-short _ _ (c .before .loop .inv) (c .loop-test .left)
+returns-2 c = topped-full _ _ (c .before .loop .inv) (c .loop-test .left)
 
 pub top-up-spec : {M : Type 1} → statement M
 top-up-spec =
