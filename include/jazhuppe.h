@@ -13,8 +13,9 @@
  * stand for both cases.
  *
  * TEXT. Places count decoded bytes: a start is counted from 0, an end is the count of bytes up to and including the
- * occurrence's last. A reference (&amp; &lt; &gt; &apos; &quot; &#38; &#x26; of at most 32 bytes, leading zeros included, its
- * number a Char of XML 1.0) is decoded to its UTF-8 bytes, once; anything else stays as it is.
+ * occurrence's last. A reference (&amp; &lt; &gt; &apos; &quot; &#38; &#x26; of at most 32 bytes, leading zeros included) is
+ * decoded to its UTF-8 bytes, once; one whose number is no Char of XML 1.0, as &#0; and &#xD800;, to U+FFFD (EF BF BD).
+ * Anything else stays as it is.
  *
  * LENDER'S DUTIES. A call is lent slices, each a pointer and a length in entries:
  *

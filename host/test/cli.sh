@@ -49,6 +49,7 @@ printf 'no seat\n' > none
 printf 'x\ta\\b\n\001y' > control
 printf 'A&am' > unfinished
 printf 'Caf\303\251 1, Caf&#xE9; 2' > utf8
+printf 'Row A&#0;1, Row A&#xD800;2, Row A&nul;3' > impossible
 : > empty
 
 # What is found.
@@ -64,6 +65,8 @@ expect "letters joined" 0 'three:0:Row\nthree:11:Row\nthree:22:Row\n' '' -it 'rO
 expect "several files" 0 'three:3\nthree:14\nthree:25\n' '' 'Row' three none
 expect "several files, starts" 0 'none:3\nthree:0\nthree:11\nthree:22\nnone:3\n' '' -s '[Rs][oe][wa]' none three none
 expect "bytes of UTF-8" 0 'utf8:0:Caf\0303\0251 1\nutf8:9:Caf\0303\0251 2\n' '' -t 'Café [0-9]' utf8
+expect "impossible characters" 0 'impossible:0:Row A\0357\0277\02751\nimpossible:11:Row A\0357\0277\02752\n' '' \
+    -t 'Row A...[0-9]' impossible
 expect "nothing found" 1 '' '' 'Row' none
 expect "an empty plan" 1 '' '' '.' empty
 expect "an empty plan, starts" 1 '' '' -s '.' empty

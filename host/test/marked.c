@@ -1,11 +1,15 @@
 /* marked.c: the requirement's marked table, its lister example, the fold, and the header's constants, through the header. */
 #include <ctype.h>
+#include <stdio.h>
 #include <string.h>
 
 #include "jazhuppe.h"
 #include "testing.h"
 
 enum { MOST = 64, NOT_MARKED = -1 };
+
+/* U+FFFD, which a form becomes whose number is no Char. */
+#define MARK "\xEF\xBF\xBD"
 
 /* A list of places. */
 typedef struct {
@@ -207,11 +211,11 @@ static void test_references(void)
 {
     decodes("M9", "&amp;amp;", "&amp;");
     decodes("M10", "&#xE9;", "\xC3\xA9");
-    stays("M11", "&#0;");
+    decodes("M11", "&#0;", MARK);
     stays("M11", "&am");
     occurs("&amp;", "&amp;amp;", 5);
     occurs("\xC3\xA9", "&#xE9;", 2);
-    occurs("&#0;", "&#0;", 4);
+    occurs(MARK, "&#0;", 3);
     occurs("&am", "&am", 3);
 }
 
@@ -237,9 +241,8 @@ static void test_padded_forms(void)
         decodes("padded", padded("&#x", "e9", bytes), "\xC3\xA9");
         occurs("&", padded("&#", "38", bytes), 1);
         occurs("\xC3\xA9", padded("&#x", "e9", bytes), 2);
-        /* Zeros alone: 0 is no Char. */
-        stays("zeros", padded("&#", "0", bytes));
-        stays("zeros", padded("&#x", "0", bytes));
+        decodes("zeros", padded("&#", "0", bytes), MARK);
+        decodes("zeros", padded("&#x", "0", bytes), MARK);
     }
     for (size_t bytes = 33; bytes <= 35; bytes++) {
         stays("too long", padded("&#", "38", bytes));
@@ -259,9 +262,61 @@ static void test_great_numbers(void)
     };
 
     for (size_t i = 0; i < sizeof forms / sizeof forms[0]; i++) {
-        stays("a great number", forms[i]);
-        occurs("&#x?[0-9F]+;", forms[i], (uint32_t)strlen(forms[i]));
+        decodes("a great number", forms[i], MARK);
+        occurs(MARK, forms[i], 3);
     }
+}
+
+/* Each border of Char, and what each number there decodes to, in both bases, as short as it is and padded to 32 bytes.
+ * Of 33 bytes it is no form. */
+static void test_borders_of_char(void)
+{
+    static const struct {
+        unsigned number;
+        const char *text;
+    } borders[] = {
+        {0, MARK}, {1, MARK}, {8, MARK}, {9, "\t"}, {10, "\n"}, {11, MARK}, {12, MARK}, {13, "\r"}, {14, MARK}, {31, MARK},
+        {32, " "}, {127, "\x7F"}, {128, "\xC2\x80"}, {159, "\xC2\x9F"}, /* Chars: not what Windows-1252 has there */
+        {0xD7FF, "\xED\x9F\xBF"}, {0xD800, MARK}, {0xDFFF, MARK}, {0xE000, "\xEE\x80\x80"}, {0xFFFD, MARK},
+        {0xFFFE, MARK}, {0xFFFF, MARK}, {0x10000, "\xF0\x90\x80\x80"}, {0x10FFFF, "\xF4\x8F\xBF\xBF"}, {0x110000, MARK},
+    };
+    static const char *const spellings[] = {"%u", "%X", "%x"};
+
+    for (size_t i = 0; i < sizeof borders / sizeof borders[0]; i++) {
+        for (size_t k = 0; k < sizeof spellings / sizeof spellings[0]; k++) {
+            const char *mark = k == 0 ? "&#" : "&#x";
+            char digits[16];
+            int count = snprintf(digits, sizeof digits, spellings[k], borders[i].number);
+
+            decodes(digits, padded(mark, digits, strlen(mark) + (size_t)count + 1), borders[i].text);
+            decodes(digits, padded(mark, digits, 32), borders[i].text);
+            stays(digits, padded(mark, digits, 33));
+        }
+    }
+}
+
+/* The mark's bytes are three places: a rule for one of them ends inside the reference, however the plan is cut. */
+static void test_inside_one_reference(void)
+{
+    static const char *const plans[] = {"a&#0;b", "a&#xD800;b", "a&#65533;b", "a&#xFFFFFFFFFFFFFFFFFFFFFFFFFFFF;b"};
+
+    for (size_t i = 0; i < sizeof plans / sizeof plans[0]; i++) {
+        decodes(plans[i], plans[i], "a" MARK "b");
+        occurs("\xEF", plans[i], 2);
+        occurs("\xBF", plans[i], 3);
+        occurs("\xBD", plans[i], 4);
+        occurs("a..", plans[i], 3);
+        occurs("a[\x80-\xFF]+b", plans[i], 5);
+    }
+}
+
+/* Misspelled, and unfinished: no forms. */
+static void test_no_forms(void)
+{
+    static const char *const plans[] = {"&nbsp;", "&null;", "&AMP;", "&#X0;", "&#;", "&#x;", "&#-1;", "&#xD800", "&#0"};
+
+    for (size_t i = 0; i < sizeof plans / sizeof plans[0]; i++)
+        stays(plans[i], plans[i]);
 }
 
 /* "Two finished plans that decode alike, one padded and one short, still get the same ends and starts." */
@@ -456,6 +511,9 @@ static void run_all(void)
     run("M9 to M11: references", test_references);
     run("padded forms of up to 32 bytes, and longer ones", test_padded_forms);
     run("numbers over every Char", test_great_numbers);
+    run("the borders of Char, and U+FFFD beyond them", test_borders_of_char);
+    run("ends inside one reference", test_inside_one_reference);
+    run("misspelled references stay", test_no_forms);
     run("a padded plan and a short one", test_padded_and_short);
     run("M12: the empty string is admitted", test_M12);
     run("an empty piece reports no end", test_empty_piece);

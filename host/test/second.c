@@ -229,7 +229,7 @@ second_rule second_read(const uint8_t *rule, size_t rule_len, uint32_t fold)
 
 static const char *const names[] = {"&amp;", "&lt;", "&gt;", "&apos;", "&quot;"};
 static const char name_bytes[] = "&<>'\"";
-enum { NAMES = 5, FORM_MOST = 32 };
+enum { NAMES = 5, FORM_MOST = 32, REPLACEMENT = 0xFFFD };
 
 static int digit_value(uint8_t c, int base)
 {
@@ -245,9 +245,9 @@ static bool is_char(uint32_t n)
            (n >= 65536 && n <= 1114111);
 }
 
-/* The number of the form that these bytes, the ; included, are; or 0, which is no Char. Eight digits after the zeros in
+/* The code point that a form, the ; included, becomes; 0 if these bytes are no form. Eight digits after the zeros in
  * front are over every Char. */
-static uint32_t form_number(const uint8_t *s, size_t n)
+static uint32_t form_becomes(const uint8_t *s, size_t n)
 {
     uint32_t value = 0;
     size_t i = 2, digits = 0;
@@ -273,7 +273,7 @@ static uint32_t form_number(const uint8_t *s, size_t n)
         if (digits < 8)
             value = value * (uint32_t)base + (uint32_t)d;
     }
-    return digits < 8 ? value : 0;
+    return digits < 8 && is_char(value) ? value : REPLACEMENT;
 }
 
 static size_t put_utf8(uint32_t n, uint8_t *out)
@@ -287,13 +287,13 @@ static size_t put_utf8(uint32_t n, uint8_t *out)
     return tail + 1;
 }
 
-/* How many bytes a legal reference at the beginning takes, and its number; 0 if there is none. */
-static size_t reference(const uint8_t *s, size_t n, uint32_t *number)
+/* How many bytes a form at the beginning takes, and the code point that it becomes; 0 if there is none. */
+static size_t reference(const uint8_t *s, size_t n, uint32_t *code)
 {
     for (size_t k = 0; s[0] == '&' && k < n && k < FORM_MOST; k++) {
         if (s[k] == ';') {
-            *number = form_number(s, k + 1);
-            return is_char(*number) ? k + 1 : 0;
+            *code = form_becomes(s, k + 1);
+            return *code != 0 ? k + 1 : 0;
         }
     }
     return 0;
@@ -304,11 +304,11 @@ size_t second_decoded(const uint8_t *raw, size_t raw_len, uint8_t *out)
     size_t at = 0, wrote = 0;
 
     while (at < raw_len) {
-        uint32_t number;
-        size_t takes = reference(raw + at, raw_len - at, &number);
+        uint32_t code;
+        size_t takes = reference(raw + at, raw_len - at, &code);
 
         if (takes > 0) {
-            wrote += put_utf8(number, out + wrote);
+            wrote += put_utf8(code, out + wrote);
             at += takes;
         } else {
             out[wrote++] = raw[at++];

@@ -8,8 +8,8 @@ use native.Mathlib.Omega.{arith}
 use lib.Dec.{T, eqb}
 use lib.ListN.{length, length-append}
 use Rattle.model.specs.Occurrence.{all}
-use Rattle.model.specs.References.{Found, none, found, formAt, isChar, legal, legalBy, referenceAt, notAmp, CanGrow, canGrow}
-use Rattle.model.proofs.Truth.{and-left, and-right, branch}
+use Rattle.model.specs.References.{Found, none, found, formAt, legal, legalBy, referenceAt, notAmp, CanGrow, canGrow}
+use Rattle.model.proofs.Truth.{and-left, and-right}
 use Rattle.model.proofs.Shares.{cut-first, cut-later, all-append, all-left, all-right, all-mono}
 use Rattle.model.proofs.Forms.{FormPrefix, form-into, form-out, inner, Shape, form-shape, grow-into, grow-out, not-none, found-bytes}
 
@@ -44,7 +44,7 @@ form-once z zs a b e =
 
 -- A legal reference has as many bytes as its form.
 pub legal-size : (m j n k : ℕ) → legal m j ≡ found n k → j ≡ k
-legal-size m j n k e = branch (isChar m) e (λ t g. found-bytes g) (λ t g. not-none g)
+legal-size m j n k e = found-bytes e
 
 module _ (limit : ℕ) where
   -- A reference is a form that is legal: its number m is made of the bytes there, and n is what it is decoded as.

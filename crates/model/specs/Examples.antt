@@ -11,7 +11,7 @@ use Rattle.model.specs.Occurrence.{Position, shortest, isStart, ends, st
 use Rattle.model.specs.RuleText.{foldFlag, otherCase, kindSet, class, byte, gap, once, optional, repeatable}
 use Rattle.model.specs.NumberedAnswers.{accepted, parse, rulePositions, wholeRefusal, overwrite}
 use Rattle.model.specs.References.{formLimit, utf8, byteTokens, tokensFrom, decode, heldTail, outTokens, letOut}
-use Rattle.model.specs.PlainScan.{feed, finish, refused, reported, refusalFor, plainScan, reportedEnds}
+use Rattle.model.specs.PlainScan.{Call, feed, finish, Answer, refused, reported, refusalFor, plainScan, reportedEnds}
 use Rattle.model.specs.WindowSearch.{shift, windows, shown}
 use Rattle.model.specs.MarkedTable.{same, isRefused}
 
@@ -130,6 +130,11 @@ data Raw : Type 0 where
 abbrev zeros : ℕ → List ℕ
 zeros n = replicate n 48
 
+-- "bytes EF BF BD in hexadecimal", for each of n impossible characters
+abbrev marks : ℕ → List ℕ
+marks zero = []
+marks (suc n) = (239 ∷ 191 ∷ 189 ∷ []) ++ marks n
+
 abbrev rawHolds : List Raw → Bool
 rawHolds [] = true
 rawHolds (decodes raw text ∷ rs) = same text (decode formLimit raw) && rawHolds rs
@@ -141,27 +146,29 @@ references : T (rawHolds (
     decodes (ascii "&lt;&gt;&amp;&apos;&quot;") (ascii "<>&'\"")
     ∷ decodes (ascii "&#38;#60;") (ascii "&#60;")
     ∷ decodes (ascii "&#x10FFFF;") (244 ∷ 143 ∷ 191 ∷ 191 ∷ [])
-    ∷ stays (ascii "&#x110000;")
-    ∷ decodes (ascii "&#65536;&#65535;") ((240 ∷ 144 ∷ 128 ∷ 128 ∷ []) ++ ascii "&#65535;")
+    ∷ decodes (ascii "&#x110000;") (marks 1)
+    ∷ decodes (ascii "&#65536;&#65535;") ((240 ∷ 144 ∷ 128 ∷ 128 ∷ []) ++ marks 1)
     ∷ decodes (ascii "&#xFf;&#xaA;") (195 ∷ 191 ∷ 194 ∷ 170 ∷ [])
     ∷ stays (ascii "&#xG;&#xg;&#x@;&#x`;&#x:;&#x/;&#:;&#/;")
     ∷ decodes (ascii "&#xD7FF;") (237 ∷ 159 ∷ 191 ∷ [])
-    ∷ stays (ascii "&#xd800;&#xDFFF;")
-    ∷ decodes (ascii "&#xE000;&#xFFFD;") (238 ∷ 128 ∷ 128 ∷ 239 ∷ 191 ∷ 189 ∷ [])
-    ∷ stays (ascii "&#xFFFE;&#xFFFF;")
+    ∷ decodes (ascii "&#xd800;&#xDFFF;") (marks 2)
+    ∷ decodes (ascii "&#xE000;&#xFFFD;") ((238 ∷ 128 ∷ 128 ∷ []) ++ marks 1)  -- U+FFFD itself is a Char
+    ∷ decodes (ascii "&#xFFFE;&#xFFFF;") (marks 2)
     ∷ decodes (ascii "&#9;&#10;&#13;&#32;") (9 ∷ 10 ∷ 13 ∷ 32 ∷ [])
-    ∷ stays (ascii "&#8;&#11;&#31;")
-    ∷ stays (ascii "&#X26;&AMP;&#;&#x;")
+    ∷ decodes (ascii "&#0;&#x0;&#8;&#11;&#12;&#14;&#31;") (marks 7)
+    ∷ decodes (ascii "&#128;&#159;") (194 ∷ 128 ∷ 194 ∷ 159 ∷ [])  -- Chars, and not what Windows-1252 has there
+    ∷ stays (ascii "&#X26;&AMP;&#;&#x;&nbsp;&null;&#-1;")  -- no forms: "Misspelled names stay too."
     ∷ decodes (ascii "&#0000000038;&#x00000026;&#0000065;") (ascii "&&A")  -- "leading zeros included"
     ∷ decodes (ascii "&#" ++ zeros 26 ++ ascii "38;" ++ ascii "&#x" ++ zeros 25 ++ ascii "26;") (ascii "&&")  -- 31 bytes each
     ∷ decodes (ascii "&#" ++ zeros 27 ++ ascii "38;" ++ ascii "&#x" ++ zeros 26 ++ ascii "26;") (ascii "&&")  -- 32 bytes each
     ∷ stays (ascii "&#" ++ zeros 28 ++ ascii "38;" ++ ascii "&#x" ++ zeros 27 ++ ascii "26;")  -- 33 bytes each
     ∷ decodes (ascii "&#x" ++ zeros 22 ++ ascii "10FFFF;") (244 ∷ 143 ∷ 191 ∷ 191 ∷ [])
-    ∷ stays (ascii "&#" ++ zeros 29 ++ ascii ";&#x" ++ zeros 28 ++ ascii ";")  -- zeros alone: 0 is no Char
-    ∷ stays (ascii "&#0004294967334;&#x000100000026;")  -- 2 ^ 32 + 38: the number is that of all digits
-    ∷ stays (ascii "&#18446744073709551654;&#x10000000000000026;")  -- 2 ^ 64 + 38
-    ∷ stays (ascii "&#79228162514264337593543950374;&#x0001000000000000000000000026;")  -- 2 ^ 96 + 38, 32 bytes each
-    ∷ stays (ascii "&#" ++ replicate 29 57 ++ ascii ";&#x" ++ replicate 28 70 ++ ascii ";")  -- the greatest numbers of 32 bytes
+    ∷ decodes (ascii "&#" ++ zeros 29 ++ ascii ";&#x" ++ zeros 28 ++ ascii ";") (marks 2)  -- zeros alone: 0 is no Char
+    ∷ stays (ascii "&#" ++ zeros 30 ++ ascii ";&#x" ++ zeros 29 ++ ascii ";")  -- 33 bytes each: no forms
+    ∷ decodes (ascii "&#0004294967334;&#x000100000026;") (marks 2)  -- 2 ^ 32 + 38: the number is that of all digits
+    ∷ decodes (ascii "&#18446744073709551654;&#x10000000000000026;") (marks 2)  -- 2 ^ 64 + 38
+    ∷ decodes (ascii "&#79228162514264337593543950374;&#x0001000000000000000000000026;") (marks 2)  -- 2 ^ 96 + 38, 32 bytes each
+    ∷ decodes (ascii "&#" ++ replicate 29 57 ++ ascii ";&#x" ++ replicate 28 70 ++ ascii ";") (marks 2)  -- the greatest numbers of 32 bytes
     ∷ stays (ascii "&00amp;&0amp;&#0x26;&#x0x26;")  -- zeros pad a number alone
     ∷ decodes (ascii "&&amp;&am&amp;&") (ascii "&&&am&&")
     ∷ decodes
@@ -231,6 +238,24 @@ risingFrom from (suc n) = from ∷ risingFrom (suc from) n
 ends-of-31-held : plainScan 0 (ascii ".") (feed most 62 ∷ feed (ascii "0") 31 ∷ feed (ascii "0") 32 ∷ feed most 62 ∷ finish 31 ∷ [])
     ≡ reported [] ∷ refused 9 ∷ reported (risingFrom 1 32) ∷ reported [] ∷ reported (risingFrom 33 31) ∷ []
 ends-of-31-held = refl
+
+-- An impossible character in two pieces: a rule of one byte ends inside the reference. "plans that decode alike get the same answers": the mark itself.
+abbrev onlyByte : (c : ℕ) → List Call → List Answer
+onlyByte c = plainScan 0 (c ∷ [])
+
+abbrev impossible : List Call
+impossible = feed (ascii "a&#0") 35 ∷ feed (ascii ";b") 33 ∷ finish 31 ∷ []
+
+abbrev mark-itself : List Call
+mark-itself = feed (ascii "a&#65533") 39 ∷ feed (ascii ";b") 33 ∷ finish 31 ∷ []
+
+inside-a-reference : (onlyByte 239 impossible ≡ reported [] ∷ reported (2 ∷ []) ∷ reported [] ∷ [])
+    × (onlyByte 191 impossible ≡ reported [] ∷ reported (3 ∷ []) ∷ reported [] ∷ [])
+    × (onlyByte 189 impossible ≡ reported [] ∷ reported (4 ∷ []) ∷ reported [] ∷ [])
+    × (decode formLimit (ascii "a&#0;b") ≡ decode formLimit (ascii "a&#65533;b"))
+    × (plainScan 0 (ascii "a.+b") impossible ≡ plainScan 0 (ascii "a.+b") mark-itself)
+unfolding utf8
+inside-a-reference = (refl, refl, refl, refl, refl)
 
 -- ---- scan calls: 12 before 10 before 9, and the edges
 refusals : (refusalFor formLimit true 4294967295 1 0 ≡ 12)

@@ -68,7 +68,7 @@ table =
     ∷ finds (ascii "a") [] [] [] (marked 0)  -- M8
     ∷ decodes (ascii "&amp;amp;") (ascii "&amp;")  -- M9
     ∷ decodes (ascii "&#xE9;") (195 ∷ 169 ∷ [])  -- M10
-    ∷ decodes (ascii "&#0;") (ascii "&#0;")  -- M11
+    ∷ decodes (ascii "&#0;") (239 ∷ 191 ∷ 189 ∷ [])  -- M11, as note 6 has it
     ∷ decodes (ascii "&am") (ascii "&am")
     ∷ refuses (ascii "a?") 8 2  -- M12
     ∷ reads (ascii "Row A&B [0-9]+") (ascii "Row A&#0000000038;B 12;") (9 ∷ 10 ∷ []) (0 ∷ [])  -- note 4, padded

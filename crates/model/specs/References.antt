@@ -92,9 +92,17 @@ utf8 n =
     (cond (ltb n 65536) ((224 + n / 4096) ∷ (128 + n / 64 % 64) ∷ (128 + n % 64) ∷ [])
     ((240 + n / 262144) ∷ (128 + n / 4096 % 64) ∷ (128 + n / 64 % 64) ∷ (128 + n % 64) ∷ [])))
 
--- "to be decoded, its number must be a Char": what becomes of a form of number n and k bytes. "A form that is decoded is a legal reference."
+-- "else to U+FFFD (bytes EF BF BD in hexadecimal)"
+abbrev pub replacement : ℕ
+replacement = 65533
+
+-- "It decodes to its number if that is a Char ..; else to U+FFFD"
+abbrev pub decodesTo : ℕ → ℕ
+decodesTo n = cond (isChar n) n replacement
+
+-- "Every form is decoded, and is a legal reference": what becomes of a form of number n and k bytes.
 abbrev pub legal : (n k : ℕ) → Found
-legal n k = cond (isChar n) (found n k) none
+legal n k = found (decodesTo n) k
 
 abbrev pub legalBy : Found → Found
 legalBy none = none

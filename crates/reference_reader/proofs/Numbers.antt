@@ -11,11 +11,10 @@ use lib.ListN.{length, drop, getD, drop-of-length-le, List·getD-eq-default}
 use lib.Seq.{drop-cons}
 use borrow.Author.Tests.{eq-eqb, ne-eqb, lt-ltb, le-ltb, le-leb, lt-leb, not-false}
 use Rattle.model.specs.Occurrence.{all}
-use Rattle.model.specs.References.{formLimit, isHexadecimal, digitValue, Found, none, found, numberFrom, beginsWith, legal, isChar, shorterOf, lacking}
+use Rattle.model.specs.References.{formLimit, isHexadecimal, digitValue, Found, none, found, numberFrom, beginsWith, isChar, replacement, decodesTo, legal, shorterOf, lacking}
 use Rattle.model.specs.RuleText.{isDecimal}
 use Rattle.model.proofs.Truth.{branch}
-use Rattle.model.proofs.Forms.{number-true, number-false, not-none, found-number}
-use Rattle.reference_reader.specs.declared.Reference.{Reference}
+use Rattle.model.proofs.Forms.{number-true, number-false, found-number}
 use Rattle.reference_reader.specs.declared.Reference.the-variants.{Decoded, Literal, Incomplete}
 use Rattle.reference_reader.specs.declared.NameMatch.the-variants.{Whole, Prefix, Different}
 use Rattle.reference_reader.specs.Reader.{codeLimit, readAs, MatchIs, okOf, baseOf, DigitIs, capped, Saturated, numberReading}
@@ -214,28 +213,28 @@ module _ (n : ℕ) where
               pub char-over : 1114111 < n → false ≡ isChar n
               char-over p = rw (ne-eqb n 9 a, ne-eqb n 10 b, ne-eqb n 13 d, le-leb 32 n h, lt-leb n 55295 k, le-leb 57344 n l, lt-leb n 65533 m, le-leb 65536 n o, lt-leb n 1114111 p)
 
--- ---- `decode_if_char`
+-- ---- `char_or_replacement`
 
-module _ (n k : ℕ) (r : Bool) (y : r ≡ isChar n) where
-  pub is-legal : r ≡ true → Decoded n k ≡ readAs (legal n k) false
-  is-legal t = rw (← y, t)
+module _ (n : ℕ) (r : Bool) (y : r ≡ isChar n) where
+  pub a-char : r ≡ true → n ≡ decodesTo n
+  a-char t = rw (← y, t)
 
-  pub not-legal : r ≡ false → Literal ≡ readAs (legal n k) false
-  not-legal t = rw (← y, t)
+  pub no-char : r ≡ false → replacement ≡ decodesTo n
+  no-char t = rw (← y, t)
 
 -- a number over all code points is no Char, so saturating changes nothing
 over-no-char : (n : ℕ) → codeLimit ≤ n → isChar n ≡ false
 over-no-char n h =
     sym (char-over n (λ e. omega arith) (λ e. omega arith) (λ e. omega arith) (omega arith) (omega arith) (omega arith) (omega arith) (omega arith) (omega arith))
 
-over-not-legal : (n k : ℕ) → codeLimit ≤ n → legal n k ≡ none
-over-not-legal n k h = rw (over-no-char n h)
+over-replaced : (n k : ℕ) → codeLimit ≤ n → legal n k ≡ found replacement k
+over-replaced n k h = rw (over-no-char n h)
 
 capped-legal : (v k : ℕ) → legal (capped v) k ≡ legal v k
 capped-legal v k = go (decLe codeLimit v)
   where
     go : Dec (codeLimit ≤ v) → legal (capped v) k ≡ legal v k
-    go (yes h) = ap (λ (n : ℕ). legal n k) (capped-over v h) ∙ sym (over-not-legal v k h)
+    go (yes h) = ap (λ (n : ℕ). legal n k) (capped-over v h) ∙ sym (over-replaced v k h)
     go (no h) = ap (λ (n : ℕ). legal n k) (capped-under v (omega arith))
 
 -- what a legal form is decoded as is a code point
@@ -243,8 +242,8 @@ pub legal-small : (m k n : ℕ) → legal m k ≡ found n k → n < codeLimit
 legal-small m k n e = go (decLe codeLimit m)
   where
     go : Dec (codeLimit ≤ m) → n < codeLimit
-    go (yes h) = not-none (sym (over-not-legal m k h) ∙ e)
-    go (no h) = branch (isChar m) e (λ t q. let z = found-number q in omega arith) (λ t q. not-none q)
+    go (yes h) = let z = found-number (sym (over-replaced m k h) ∙ e) in omega arith
+    go (no h) = branch (isChar m) (found-number e) (λ t q. omega arith) (λ t q. omega arith)
 
 -- ---- `read_number`
 
@@ -272,10 +271,10 @@ module _ (hex : Bool) (from : ℕ) (s : List ℕ) where
   unfolding numberReading
   full-if e a l = rw (e, a, lt-leb (length s + lacking (drop from s)) formLimit l)
 
-  legal-if : (n k : ℕ) → numberFrom (okOf hex) (baseOf hex) 0 from 0 (drop from s) ≡ found n k → k ≤ formLimit → all (okOf hex) (drop from s) ≡ false
+  legal-if : (n k : ℕ) → numberFrom (okOf hex) (baseOf hex) 0 from 0 (drop from s) ≡ found n k → k ≤ formLimit
       → readAs (legal n k) false ≡ numberReading hex from s
   unfolding numberReading
-  legal-if n k e l a = rw (e, le-leb k formLimit l, a)
+  legal-if n k e l = rw (e, le-leb k formLimit l)
 
   pub numbering : from ≤ length s → Numbering hex from s 0 from
   numbering h =
@@ -317,12 +316,12 @@ module _ (hex : Bool) (from : ℕ) (s : List ℕ) where
                 let k : 1 ≤ i - from = let a = g .above in omega arith in
                 ends-as ∙ rw (eq-eqb (getD s i 0) 59 (sym eb ∙ semi), le-leb 1 (i - from) k, add-one)
 
-            pub number-ends : length s ≤ formLimit → (r : Reference) → r ≡ readAs (legal value (i + 1)) false → r ≡ numberReading hex from s
+            pub number-ends : length s ≤ formLimit → (r : ℕ) → r ≡ decodesTo value → Decoded r (i + 1) ≡ numberReading hex from s
             number-ends l r y =
-                y
+                ap (λ (n : ℕ). Decoded n (i + 1)) y
                 ∙ ap (λ (v : ℕ). readAs (legal v (i + 1)) false) (g .is)
                 ∙ ap (λ (f : Found). readAs f false) (capped-legal (g .spelt) (i + 1))
-                ∙ legal-if (g .spelt) (i + 1) ends-in (omega arith) not-all
+                ∙ legal-if (g .spelt) (i + 1) ends-in (omega arith)
 
       pub number-turn : (d ≡ 16 → ⊥) → {v : ℕ} → Saturated (value * baseOf hex + d) v → Numbering hex from s v (i + 1)
       number-turn z {v} y =

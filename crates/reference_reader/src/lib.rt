@@ -1,16 +1,15 @@
 // One reference of document 01: its reader, and the writer of its UTF-8 bytes.
 ghost use mathlib.Core.Path.{_≡_};
-ghost use mathlib.Core.Bool.{false};
 ghost use Prim.Native.Nat.{_+_, _*_, _<_, _≤_};
 ghost use lib.ListN.{length, getD};
-ghost use Rattle.model.specs.References.{formLimit, isChar, legal};
-ghost use Rattle.reference_reader.specs.Reader.{codeLimit, MatchIs, DigitIs, Saturated, baseOf, readAs, numberReading, NamePlace, NumberPlace, ReadIs};
+ghost use Rattle.model.specs.References.{formLimit, isChar, decodesTo};
+ghost use Rattle.reference_reader.specs.Reader.{codeLimit, MatchIs, DigitIs, Saturated, baseOf, numberReading, NamePlace, NumberPlace, ReadIs};
 ghost use Rattle.reference_reader.specs.Utf8.{PutFine, Put};
 use limits::FORM_LIMIT;
 
-// What stands at the front of some bytes. `Decoded`: a legal reference, its code point and how many
-// bytes spell it. `Literal`: none, so that the first byte stays. `Incomplete`: all the bytes are the
-// beginning of a form.
+// What stands at the front of some bytes. `Decoded`: a legal reference, the code point that it decodes
+// to and how many bytes spell it. `Literal`: none, so that the first byte stays. `Incomplete`: all the
+// bytes are the beginning of a form.
 pub enum Reference {
     Decoded(u32, usize),
     Literal,
@@ -92,8 +91,7 @@ fn saturate(n: u32) -> u32
     CODE_LIMIT
 }
 
-// The number with one digit more. It never passes the limit, so a longer form (32 bytes, say) could not
-// overflow it either.
+// The number with one digit more. It never passes the limit, so that no number of digits overflows it.
 fn push_digit(value: u32, d: u32, hex: bool) -> u32
     requires { ⌜ value ≤ codeLimit ⌝ }
     requires { ⌜ d < 16 ⌝ }
@@ -139,14 +137,17 @@ fn is_char(n: u32) -> bool
     false
 }
 
-// What becomes of a form of number n and k bytes: decoded if it is legal, else it stays.
-fn decode_if_char(n: u32, k: usize) -> Reference
-    ensures { λ r. ⌜ r ≡ readAs (legal n k) false ⌝ }
+// U+FFFD, for a number that is no Char.
+const REPLACEMENT: u32 = 65_533;
+
+// The code point that a form of number n decodes to.
+fn char_or_replacement(n: u32) -> u32
+    ensures { λ r. ⌜ r ≡ decodesTo n ⌝ }
 {
     if is_char(n) {
-        return Reference::Decoded(n, k);
+        return n;
     }
-    Reference::Literal
+    REPLACEMENT
 }
 
 // A number's digits from `from` on, up to a `;`.
@@ -166,7 +167,8 @@ fn read_number(s: &[u8], from: usize, hex: bool) -> Reference
             if i == from {
                 return Reference::Literal;
             }
-            return decode_if_char(value, i + 1);
+            let bytes = i + 1;
+            return Reference::Decoded(char_or_replacement(value), bytes);
         }
         value = push_digit(value, d, hex);
         i += 1;

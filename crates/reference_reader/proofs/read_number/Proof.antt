@@ -27,11 +27,11 @@ returns c = search number-broken
 returns-2 : tie.Need-returns-2 Inv-loop μ-loop
 returns-2 c = search number-empty
 
-add-decode-if-char : tie.Need-add-decode-if-char Inv-loop μ-loop
-add-decode-if-char c = search needs
+add-bytes : tie.Need-add-bytes Inv-loop μ-loop
+add-bytes c = search needs
 
-decode-if-char-requires : tie.Need-decode-if-char-requires Inv-loop μ-loop
-decode-if-char-requires c κs = search needs
+char-or-replacement-requires : tie.Need-char-or-replacement-requires Inv-loop μ-loop
+char-or-replacement-requires c κs = search needs
 
 returns-3 : tie.Need-returns-3 Inv-loop μ-loop
 returns-3 c = search number-ends
@@ -77,8 +77,8 @@ read-number-spec =
     digit-requires
     returns
     returns-2
-    add-decode-if-char
-    decode-if-char-requires
+    add-bytes
+    char-or-replacement-requires
     returns-3
     push-digit-requires
     add-i
