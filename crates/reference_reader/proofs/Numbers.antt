@@ -11,13 +11,13 @@ use lib.ListN.{length, drop, getD, drop-of-length-le, List·getD-eq-default}
 use lib.Seq.{drop-cons}
 use borrow.Author.Tests.{eq-eqb, ne-eqb, lt-ltb, le-ltb, le-leb, lt-leb, not-false}
 use Rattle.model.specs.Occurrence.{all}
-use Rattle.model.specs.References.{formLimit, isHexadecimal, digitValue, Found, none, found, numberFrom, beginsWith, isChar, replacement, decodesTo, legal, shorterOf, lacking}
+use Rattle.model.specs.References.{formLimit, isHexadecimal, digitValue, none, found, numberFrom, beginsWith, isChar, replacement, decodesTo, legal, shorterOf, lacking}
 use Rattle.model.specs.RuleText.{isDecimal}
 use Rattle.model.proofs.Truth.{branch}
 use Rattle.model.proofs.Forms.{number-true, number-false, found-number}
 use Rattle.reference_reader.specs.declared.Reference.the-variants.{Decoded, Literal, Incomplete}
 use Rattle.reference_reader.specs.declared.NameMatch.the-variants.{Whole, Prefix, Different}
-use Rattle.reference_reader.specs.Reader.{codeLimit, readAs, MatchIs, okOf, baseOf, DigitIs, capped, Saturated, numberReading}
+use Rattle.reference_reader.specs.Reader.{codeLimit, MatchIs, okOf, baseOf, DigitIs, capped, Saturated, numberReading}
 
 -- `byte_or_zero` past the end
 pub past : (s : List ℕ) (i : ℕ) → length s ≤ i → 0 ≡ getD s i 0
@@ -227,22 +227,22 @@ over-no-char : (n : ℕ) → codeLimit ≤ n → isChar n ≡ false
 over-no-char n h =
     sym (char-over n (λ e. omega arith) (λ e. omega arith) (λ e. omega arith) (omega arith) (omega arith) (omega arith) (omega arith) (omega arith) (omega arith))
 
-over-replaced : (n k : ℕ) → codeLimit ≤ n → legal n k ≡ found replacement k
-over-replaced n k h = rw (over-no-char n h)
+over-replaced : (n : ℕ) → codeLimit ≤ n → decodesTo n ≡ replacement
+over-replaced n h = rw (over-no-char n h)
 
-capped-legal : (v k : ℕ) → legal (capped v) k ≡ legal v k
-capped-legal v k = go (decLe codeLimit v)
+capped-decodes : (v : ℕ) → decodesTo (capped v) ≡ decodesTo v
+capped-decodes v = go (decLe codeLimit v)
   where
-    go : Dec (codeLimit ≤ v) → legal (capped v) k ≡ legal v k
-    go (yes h) = ap (λ (n : ℕ). legal n k) (capped-over v h) ∙ sym (over-replaced v k h)
-    go (no h) = ap (λ (n : ℕ). legal n k) (capped-under v (omega arith))
+    go : Dec (codeLimit ≤ v) → decodesTo (capped v) ≡ decodesTo v
+    go (yes h) = ap decodesTo (capped-over v h) ∙ sym (over-replaced v h)
+    go (no h) = ap decodesTo (capped-under v (omega arith))
 
 -- what a legal form is decoded as is a code point
 pub legal-small : (m k n : ℕ) → legal m k ≡ found n k → n < codeLimit
 legal-small m k n e = go (decLe codeLimit m)
   where
     go : Dec (codeLimit ≤ m) → n < codeLimit
-    go (yes h) = let z = found-number (sym (over-replaced m k h) ∙ e) in omega arith
+    go (yes h) = let z = sym (over-replaced m h) ∙ found-number e in omega arith
     go (no h) = branch (isChar m) (found-number e) (λ t q. omega arith) (λ t q. omega arith)
 
 -- ---- `read_number`
@@ -271,10 +271,10 @@ module _ (hex : Bool) (from : ℕ) (s : List ℕ) where
   unfolding numberReading
   full-if e a l = rw (e, a, lt-leb (length s + lacking (drop from s)) formLimit l)
 
-  legal-if : (n k : ℕ) → numberFrom (okOf hex) (baseOf hex) 0 from 0 (drop from s) ≡ found n k → k ≤ formLimit
-      → readAs (legal n k) false ≡ numberReading hex from s
+  decoded-if : (n k : ℕ) → numberFrom (okOf hex) (baseOf hex) 0 from 0 (drop from s) ≡ found n k → k ≤ formLimit
+      → Decoded (decodesTo n) k ≡ numberReading hex from s
   unfolding numberReading
-  legal-if n k e l = rw (e, le-leb k formLimit l)
+  decoded-if n k e l = rw (e, le-leb k formLimit l)
 
   pub numbering : from ≤ length s → Numbering hex from s 0 from
   numbering h =
@@ -318,10 +318,8 @@ module _ (hex : Bool) (from : ℕ) (s : List ℕ) where
 
             pub number-ends : length s ≤ formLimit → (r : ℕ) → r ≡ decodesTo value → Decoded r (i + 1) ≡ numberReading hex from s
             number-ends l r y =
-                ap (λ (n : ℕ). Decoded n (i + 1)) y
-                ∙ ap (λ (v : ℕ). readAs (legal v (i + 1)) false) (g .is)
-                ∙ ap (λ (f : Found). readAs f false) (capped-legal (g .spelt) (i + 1))
-                ∙ legal-if (g .spelt) (i + 1) ends-in (omega arith)
+                ap (λ (n : ℕ). Decoded n (i + 1)) (y ∙ ap decodesTo (g .is) ∙ capped-decodes (g .spelt))
+                ∙ decoded-if (g .spelt) (i + 1) ends-in (omega arith)
 
       pub number-turn : (d ≡ 16 → ⊥) → {v : ℕ} → Saturated (value * baseOf hex + d) v → Numbering hex from s v (i + 1)
       number-turn z {v} y =
