@@ -1,4 +1,4 @@
-/* bench [--size MiB] [--repeats n]: prints the tables. */
+/* bench [--size MiB] [--repeats n] [--only table]: prints the tables, or those of one name. */
 #include "bench.h"
 
 #include <stdio.h>
@@ -7,6 +7,30 @@
 #include <time.h>
 
 static size_t mebibytes = 64;
+static const char *only;
+
+static const struct {
+    const char *name;
+    void (*print)(const texts *t);
+} tables[] = {
+    {"scan", scan_tables},
+    {"long", long_table},
+    {"hostile", hostile_table},
+    {"raw", raw_table},
+    {"decode", decode_table},
+    {"search", search_tables},
+    {"matcher", matcher_table},
+};
+enum { TABLES = sizeof tables / sizeof *tables };
+
+static const char *table_after(int argc, char **argv, int i)
+{
+    for (int k = 0; i + 1 < argc && k < TABLES; k++)
+        if (!strcmp(argv[i + 1], tables[k].name))
+            return tables[k].name;
+    die("wants scan, long, hostile, raw, decode, search or matcher", argv[i]);
+    return NULL;
+}
 
 static long number_after(int argc, char **argv, int i, long most)
 {
@@ -23,6 +47,8 @@ static void read_options(int argc, char **argv)
             mebibytes = (size_t)number_after(argc, argv, i, 1024);
         else if (!strcmp(argv[i], "--repeats"))
             repeats = (int)number_after(argc, argv, i, MOST_REPEATS);
+        else if (!strcmp(argv[i], "--only"))
+            only = table_after(argc, argv, i);
         else
             die("unknown option", argv[i]);
     }
@@ -65,11 +91,9 @@ int main(int argc, char **argv)
     size_t length = mebibytes << 20;
     texts t = {plan_text(length, 0), plan_text(length, 1), length / 4};
     print_title();
-    scan_tables(&t);
-    raw_table(&t);
-    decode_table(&t);
-    search_tables(&t);
-    matcher_table(&t);
+    for (int i = 0; i < TABLES; i++)
+        if (!only || !strcmp(only, tables[i].name))
+            tables[i].print(&t);
     print_noise();
     free(t.plan.at);
     free(t.plan_with_ampersands.at);

@@ -28,7 +28,7 @@ typedef struct {
 /* One who reports all ends of a rule, piece by piece. */
 typedef struct {
     const char *name;
-    void *(*open)(const rule *r);
+    void *(*open)(const rule *r); /* NULL: the rule is too much for it */
     void (*scan)(void *opened, bytes text, size_t piece, tally *found);
     void (*close)(void *opened);
 } scanner;
@@ -49,6 +49,8 @@ int same(tally a, tally b);
 /* rules.c */
 enum { RULES = 8 };
 extern const rule rules[RULES];
+enum { LONG_RULES = 6 };
+extern const rule long_rules[LONG_RULES];
 extern const rule plus_rule, stuck_rule, absent_rule, near_blocks_rule;
 
 /* texts.c: each text comes from a seed, and is the same in every run */
@@ -62,7 +64,8 @@ bytes without_ampersands(bytes text);
 bytes reversed(bytes text);
 
 /* contenders */
-extern const scanner jazhuppe_scanner, literal_gcc_scanner, literal_clang_scanner, copy_scanner, hyperscan_scanner;
+extern const scanner jazhuppe_scanner, literal_gcc_scanner, literal_clang_scanner, wide_gcc_scanner, wide_clang_scanner;
+extern const scanner copy_scanner, hyperscan_scanner;
 extern const matcher re2_matcher, pcre2_matcher;
 void literal_starts(const rule *r, bytes text, tally *found);
 size_t expat_decode(bytes raw, uint8_t *out);
@@ -75,7 +78,7 @@ extern size_t (*const expat_peer)(bytes raw, uint8_t *out);
 /* race.c */
 enum { MOST_RACERS = 6, MOST_REPEATS = 99 };
 typedef struct {
-    void (*run)(void *with);
+    void (*run)(void *with); /* NULL: missing, and its time is 0 */
     void *with;
     double best; /* seconds */
 } racer;
@@ -98,6 +101,8 @@ typedef struct {
     size_t some;                      /* the length of what is not read over the whole plan */
 } texts;
 void scan_tables(const texts *t);
+void long_table(const texts *t);
+void hostile_table(const texts *t);
 void raw_table(const texts *t);
 void decode_table(const texts *t);
 void search_tables(const texts *t);

@@ -2,6 +2,7 @@
 #include "bench.h"
 
 #include <hs.h>
+#include <stdio.h>
 #include <stdlib.h>
 
 typedef struct {
@@ -24,7 +25,12 @@ static void *open_rule(const rule *r)
 {
     opened_rule *o = need(calloc(1, sizeof *o));
     hs_compile_error_t *error;
-    accepted(hs_compile(r->pattern, HS_FLAG_DOTALL, HS_MODE_STREAM, NULL, &o->database, &error), r->pattern);
+    if (hs_compile(r->pattern, HS_FLAG_DOTALL, HS_MODE_STREAM, NULL, &o->database, &error) != HS_SUCCESS) {
+        fprintf(stderr, "bench: Hyperscan refused %s: %s\n", r->pattern, error->message);
+        hs_free_compile_error(error);
+        free(o);
+        return NULL;
+    }
     accepted(hs_alloc_scratch(o->database, &o->scratch), "scratch");
     return o;
 }

@@ -1,19 +1,8 @@
 #include "literal.h"
-#include "bench.h"
 
 #include <stdio.h>
 #include <stdlib.h>
 #include <string.h>
-
-typedef struct {
-    uint8_t set[256];
-    int optional, repeats;
-} position;
-
-typedef struct {
-    position at[64];
-    int n;
-} positions;
 
 /* The readers below meet the rules of this benchmark only, so they look for no fault. Each returns what follows. */
 
@@ -77,6 +66,14 @@ static const char *read_element(const char *p, positions *r)
     return p + (q->optional || q->repeats);
 }
 
+positions *read_positions(const rule *r)
+{
+    positions *all = need(calloc(1, sizeof *all));
+    for (const char *p = r->text; *p;)
+        p = read_element(p, all);
+    return all;
+}
+
 static uint64_t flooded(const literal *m, uint64_t d)
 {
     uint64_t df = d | m->last;
@@ -95,10 +92,10 @@ static void add_position(literal *m, const position *p, uint64_t bit)
 /* The rule's own tables, or those of its positions in reverse order. */
 static literal *read_rule(const rule *r, int backwards)
 {
-    positions *all = need(calloc(1, sizeof *all));
+    positions *all = read_positions(r);
     literal *m = need(calloc(1, sizeof *m));
-    for (const char *p = r->text; *p;)
-        p = read_element(p, all);
+    if (all->n > 63)
+        die("too long for one word", r->text);
     for (int i = 0; i < all->n; i++)
         add_position(m, &all->at[backwards ? all->n - 1 - i : i], (uint64_t)2 << i);
     m->before = (m->optional >> 1) & ~m->optional;

@@ -46,9 +46,11 @@ void race(racer *all, int n)
     double times[MOST_RACERS][MOST_REPEATS];
     for (int k = 0; k < repeats; k++)
         for (int i = 0; i < n; i++)
-            times[i][k] = timed(&all[i]);
+            if (all[i].run)
+                times[i][k] = timed(&all[i]);
     for (int i = 0; i < n; i++)
-        settle(&all[i], times[i]);
+        if (all[i].run)
+            settle(&all[i], times[i]);
 }
 
 void print_noise(void)

@@ -1,4 +1,4 @@
-/* The forward scan on decoded text: ordinary plans, and texts made to hurt it. */
+/* The forward scan on decoded text: ordinary plans, long rules, and texts made to hurt it. */
 #include "bench.h"
 
 #include <stdlib.h>
@@ -39,27 +39,41 @@ static void agree(reading *g, const rule *r)
             die("other ends than ours", r->text);
 }
 
-static void enter(reading *g, racer *all, const rule *r, bytes text, size_t times)
+/* One that cannot open the rule is missing, as one that is NULL. */
+static void enter(reading *g, racer *all, const scanner *const *who, const rule *r, bytes text, size_t times)
 {
-    const scanner *who[CONTENDERS] = {&jazhuppe_scanner, &jazhuppe_scanner, &literal_gcc_scanner, &literal_clang_scanner, &copy_scanner, hyperscan_peer};
     for (int i = 0; i < CONTENDERS; i++) {
-        reading one = {who[i], who[i] ? who[i]->open(r) : NULL, text, i == LONGER ? LONG_PIECE : PIECE, times, {0, 0, 0}};
+        void *opened = who[i] ? who[i]->open(r) : NULL;
+        reading one = {opened ? who[i] : NULL, opened, text, i == LONGER ? LONG_PIECE : PIECE, times, {0, 0, 0}};
         g[i] = one;
-        all[i] = (racer){read_all, &g[i], 0};
+        all[i] = (racer){opened ? read_all : NULL, &g[i], 0};
     }
 }
 
 /* The least times of all contenders, after they were found to agree; gives the count of ends. */
-static uint64_t compete(racer *all, const rule *r, bytes text, size_t times)
+static uint64_t compete_by(racer *all, const scanner *const *who, const rule *r, bytes text, size_t times)
 {
     reading g[CONTENDERS];
-    enter(g, all, r, text, times);
+    enter(g, all, who, r, text, times);
     agree(g, r);
-    race(all, hyperscan_peer ? CONTENDERS : CONTENDERS - 1);
+    race(all, CONTENDERS);
     for (int i = 0; i < CONTENDERS; i++)
         if (g[i].who)
             g[i].who->close(g[i].opened);
     return g[OURS].found.count;
+}
+
+static uint64_t compete(racer *all, const rule *r, bytes text, size_t times)
+{
+    const scanner *const who[CONTENDERS] = {&jazhuppe_scanner, &jazhuppe_scanner, &literal_gcc_scanner, &literal_clang_scanner, &copy_scanner, hyperscan_peer};
+    return compete_by(all, who, r, text, times);
+}
+
+/* Rules over 63 positions, for which the formula needs four words. */
+static uint64_t compete_long(racer *all, const rule *r, bytes text)
+{
+    const scanner *const who[CONTENDERS] = {&jazhuppe_scanner, NULL, &wide_gcc_scanner, &wide_clang_scanner, NULL, hyperscan_peer};
+    return compete_by(all, who, r, text, 1);
 }
 
 static void scan_row(const char *of, const rule *r, bytes text, size_t times)
@@ -96,6 +110,21 @@ static void hostile_row(const char *of, const rule *r, bytes text)
     end_row();
 }
 
+static void long_row(const char *of, const rule *r, bytes text)
+{
+    racer all[CONTENDERS];
+    uint64_t ends = compete_long(all, r, text);
+    double t = all[OURS].best;
+    word_cell(of);
+    word_cell(r->name);
+    count_cell(ends);
+    speed_cell(text.length, t);
+    ratio_cell(all[HYPERSCAN].best, t);
+    ratio_cell(all[GCC].best, t);
+    ratio_cell(all[CLANG].best, t);
+    end_row();
+}
+
 static void repeated_rows(const char *shown, const char *what, size_t length, const rule *const *some, int n)
 {
     bytes text = repeated(what, length);
@@ -104,21 +133,21 @@ static void repeated_rows(const char *shown, const char *what, size_t length, co
     free(text.at);
 }
 
-static void own_letter_row(const rule *r, size_t length)
+static void own_letter_row(void (*row)(const char *of, const rule *r, bytes text), const rule *r, size_t length)
 {
     bytes text = own_letters(r, length);
-    hostile_row("the rule's letters, random", r, text);
+    row("the rule's letters, random", r, text);
     free(text.at);
 }
 
 static void own_letter_rows(size_t length)
 {
     for (int i = 0; i < RULES; i++)
-        own_letter_row(&rules[i], length);
-    own_letter_row(&near_blocks_rule, length);
+        own_letter_row(hostile_row, &rules[i], length);
+    own_letter_row(hostile_row, &near_blocks_rule, length);
 }
 
-static void hostile_table(const texts *t)
+void hostile_table(const texts *t)
 {
     const rule *const starts[] = {&rules[0], &rules[2], &rules[3]};
     const rule *const bare[] = {&plus_rule, &rules[2], &rules[3]}; /* the same with no & to look at */
@@ -150,5 +179,13 @@ void scan_tables(const texts *t)
     size_t times = t->some / CACHED ? t->some / CACHED : 1;
     scan_table("Scan, all ends, pieces of 4,096 bytes", t->plan, t->plan_with_ampersands, 1);
     scan_table("The same over 1 MiB that stays in the cache", part(t->plan, CACHED), part(t->plan_with_ampersands, CACHED), times);
-    hostile_table(t);
+}
+
+void long_table(const texts *t)
+{
+    heading("Long rules, all ends, pieces of 4,096 bytes", "| text | rule | ends | MB/s | to Hyperscan | to the formula in four words, gcc | clang |");
+    for (int i = 0; i < LONG_RULES; i++)
+        long_row("plan", &long_rules[i], t->plan);
+    for (int i = 0; i < LONG_RULES; i++)
+        own_letter_row(long_row, &long_rules[i], t->some);
 }

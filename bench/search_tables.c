@@ -48,8 +48,8 @@ static void search_row(const char *of, const rule *r, bytes text)
 {
     searching s = begin(r, text);
     streaming h = {hyperscan_peer ? hyperscan_peer->open(r) : NULL, text};
-    racer all[2] = {{search_all, &s, 0}, {stream_all, &h, 0}};
-    race(all, hyperscan_peer ? 2 : 1);
+    racer all[2] = {{search_all, &s, 0}, {h.opened ? stream_all : NULL, &h, 0}};
+    race(all, 2);
     word_cell(of);
     word_cell(r->name);
     count_cell(s.answer.count);
@@ -58,7 +58,7 @@ static void search_row(const char *of, const rule *r, bytes text)
     ratio_cell(all[1].best, all[0].best);
     target_cell(all[1].best / all[0].best, r->search_target);
     end_row();
-    if (hyperscan_peer)
+    if (h.opened)
         hyperscan_peer->close(h.opened);
     free(s.starts);
 }

@@ -1,4 +1,5 @@
 #include "bench.h"
+#include "jazhuppe.h"
 
 #include <stdio.h>
 #include <string.h>
@@ -136,7 +137,7 @@ bytes repeated(const char *what, size_t length)
 /* Random bytes out of those that the rule's text has, marks aside. */
 bytes own_letters(const rule *r, size_t length)
 {
-    char letters[256];
+    char letters[JAZHUPPE_RULE_MOST];
     uint32_t n = 0;
     for (const char *p = r->text; *p; p++)
         if (!strchr(".[]{}?+*\\-^", *p))

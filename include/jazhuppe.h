@@ -6,10 +6,10 @@
  *                      the ends of occurrences, with the same memory for a plan of any length;
  *   the window search  jazhuppe_decode the raw plan, then jazhuppe_search its decoded text: the starts.
  *
- * RULE. 1 to 255 bytes, never decoded. Any byte but a mark (. [ ] { } ? + * \) stands for itself; \ before a mark, ^ or -
+ * RULE. 1 to 1,023 bytes, never decoded. Any byte but a mark (. [ ] { } ? + * \) stands for itself; \ before a mark, ^ or -
  * gives that byte; . is any byte; [..] is a class of bytes and ranges lo-hi, turned round by a first ^; {a,b} is a gap
  * of a to b bytes of any kind; ? + * after an element other than a gap make it optional, repeatable, or both. A gap makes b
- * positions, every other element one; a rule has at most 63. With fold set (any number but 0) letters of A to Z and a to z
+ * positions, every other element one; a rule has at most 255. With fold set (any number but 0) letters of A to Z and a to z
  * stand for both cases.
  *
  * TEXT. Places count decoded bytes: a start is counted from 0, an end is the count of bytes up to and including the
@@ -47,13 +47,13 @@ extern "C" {
 /* The refusals. 1 and 2 come first, then the leftmost of 3 to 7 (an element's own fault before 7), then 8.
  * A call on a whole text checks the rule, then 10, then 9. A scan call checks 11, 12, 10, 9. */
 #define JAZHUPPE_RULE_EMPTY 1    /* rule of length 0; place 0 */
-#define JAZHUPPE_RULE_LONG 2     /* rule over 255 bytes; place 255 */
+#define JAZHUPPE_RULE_LONG 2     /* rule over 1,023 bytes; place 1,023 */
 #define JAZHUPPE_CLASS 3         /* class unclosed, empty, with a reversed range, a bad \ or misplaced -, or left with
                                     no byte; place of the [ */
 #define JAZHUPPE_GAP 4           /* gap not of the given form, a > b, or b = 0; place of the { */
 #define JAZHUPPE_MARK 5          /* ?, +, * first, after a gap, or after another of them; place of the mark */
 #define JAZHUPPE_BYTE 6          /* outside a class: bad or last \, or stray ] or }; place of the byte */
-#define JAZHUPPE_POSITIONS 7     /* an element takes the positions past 63; place of the element */
+#define JAZHUPPE_POSITIONS 7     /* an element takes the positions past 255; place of the element */
 #define JAZHUPPE_ADMITS_EMPTY 8  /* the empty string is admitted: every position is optional; place = rule length */
 #define JAZHUPPE_TOO_SHORT 9     /* list or buffer too short */
 #define JAZHUPPE_TOO_MUCH 10     /* more than 4,294,967,295 bytes in the text, or in all the pieces */
@@ -61,10 +61,10 @@ extern "C" {
 #define JAZHUPPE_FINISHED 12     /* scan already finished */
 
 /* The limits. */
-#define JAZHUPPE_RULE_MOST 255           /* bytes of a rule */
-#define JAZHUPPE_POSITIONS_MOST 63       /* positions of a rule */
+#define JAZHUPPE_RULE_MOST 1023          /* bytes of a rule */
+#define JAZHUPPE_POSITIONS_MOST 255      /* positions of a rule */
 #define JAZHUPPE_TEXT_MOST 4294967295u   /* bytes of a text, or of all the pieces of a plan */
-#define JAZHUPPE_SCAN_WORDS 268          /* the length of a scan value */
+#define JAZHUPPE_SCAN_WORDS 1045         /* the length of a scan value */
 #define JAZHUPPE_HELD_MOST 31            /* bytes that a scan holds back between pieces */
 
 /* The entries that the list of a feed with a piece of so many bytes needs, and that of a finish. */
@@ -75,7 +75,7 @@ extern "C" {
 typedef struct {
     uint32_t number;     /* 0, or the refusal */
     uint32_t place;      /* where in the rule */
-    uint32_t positions;  /* how many, 1 to 63 */
+    uint32_t positions;  /* how many, 1 to 255 */
     uint32_t shortest;   /* the shortest length of an occurrence: the positions that are not optional */
 } jazhuppe_prepared;
 
@@ -128,20 +128,22 @@ jazhuppe_span jazhuppe_show(const uint8_t *rule, size_t rule_len, uint32_t fold,
 
 /* THE SCAN VALUE is JAZHUPPE_SCAN_WORDS numbers. It may be copied, kept and taken up again, in another process too:
  *
- *   0 to 255    for each byte, the positions that admit it: bit i is position i, counted from 1
- *   256         the repeatable positions
- *   257         the optional positions
- *   258         how many positions, 1 to 63
- *   259         the state: bit i says that some tail of the text so far fills the first i positions
- *   260         1 if it is finished, else 0
- *   261         the bytes taken, up to 4,294,967,295
- *   262         the bytes decoded from them
- *   263         how many bytes are held back, at most 31
- *   264 to 267  the bytes held back: byte j is byte j % 8, the lowest being 0, of number 264 + j / 8; 0 past their count
+ *   0 to 1023     for each byte c, the positions that admit it, in four numbers: bit i of number c + 256 w is position
+ *                 64 w + i, counted from 1
+ *   1024 to 1027  the repeatable positions, in four numbers, position 64 w + i at bit i of the w-th
+ *   1028 to 1031  the optional positions
+ *   1032          how many positions, 1 to 255
+ *   1033 to 1036  the state: bit i of the w-th says that some tail of the text so far fills the first 64 w + i positions
+ *   1037          1 if it is finished, else 0
+ *   1038          the bytes taken, up to 4,294,967,295
+ *   1039          the bytes decoded from them
+ *   1040          how many bytes are held back, at most 31
+ *   1041 to 1044  the bytes held back: byte j is byte j % 8, the lowest being 0, of number 1041 + j / 8; 0 past their count
  *
- * It is impossible (11) when it has another length, over 63 positions or none, a finished field other than 0 or 1, a count
+ * It is impossible (11) when it has another length, over 255 positions or none, a finished field other than 0 or 1, a count
  * over what its field holds, held bytes that are not a tail that could still grow into a reference, or decoded and held
- * counts that together exceed the bytes taken. Words 0 to 257, 259 and 264 to 267 may else be any numbers. */
+ * counts that together exceed the bytes taken. Words 0 to 1031, 1033 to 1036 and 1041 to 1044 may
+ * else be any numbers. */
 
 #ifdef __cplusplus
 }

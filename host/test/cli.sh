@@ -99,11 +99,11 @@ expect "refused 5" 2 '' 'jazhuppe: refused 5 at 2: ?, + or * first, after a gap,
     'a+*'
 expect "refused 6, after bytes of UTF-8" 2 '' 'jazhuppe: refused 6 at 5: bad or last \\, or stray ] or }
   Caf\0303\0251]\n      ^\n' 'Café]'
-expect "refused 7" 2 '' 'jazhuppe: refused 7 at 6: this element takes the positions past 63\n  {1,63}a\n        ^\n' \
-    '{1,63}a'
+expect "refused 7" 2 '' 'jazhuppe: refused 7 at 18: this element takes the positions past 255
+  {1,99}{1,99}{1,57}a\n                    ^\n' '{1,99}{1,99}{1,57}a'
 expect "refused 8" 2 '' 'jazhuppe: refused 8 at 2: the rule admits the empty string\n  a?\n    ^\n' 'a?' gone
-long=$(printf '%0300d' 0)
-expect "refused 2, the rule in part" 2 '' "jazhuppe: refused 2 at 255: the rule is over 255 bytes
+long=$(printf '%01100d' 0)
+expect "refused 2, the rule in part" 2 '' "jazhuppe: refused 2 at 1023: the rule is over 1,023 bytes
   $(printf '%076d' 0)\n$(printf '%62s' '')^\n" "$long"
 
 # Help.

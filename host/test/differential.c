@@ -11,10 +11,11 @@
 
 #include "jazhuppe.h"
 #include "random.h"
+#include "scan_layout.h"
 #include "second.h"
 #include "testing.h"
 
-enum { WORDS = JAZHUPPE_SCAN_WORDS, REFUSALS = JAZHUPPE_FINISHED, RULE_ROOM = 320, PLAN_MOST = 1536 };
+enum { WORDS = JAZHUPPE_SCAN_WORDS, REFUSALS = JAZHUPPE_FINISHED, RULE_ROOM = JAZHUPPE_RULE_MOST + 80, PLAN_MOST = 1536 };
 
 typedef struct {
     uint8_t rule[RULE_ROOM];
@@ -239,14 +240,14 @@ static void make_rule(void)
         elements = 0;
     if (one_in(100)) {
         put('[');
-        while (now.rule_len < 250 + below(10))
+        while (now.rule_len < JAZHUPPE_RULE_MOST - 5 + below(10))
             put('a');
         put(']');
     }
     while (elements-- > 0)
         put_element();
     if (one_in(100))
-        while (now.rule_len < 256 + below(60))
+        while (now.rule_len < JAZHUPPE_RULE_MOST + 1 + below(60))
             put_byte(any_letter());
     if (now.rule_len > 0 && one_in(25))
         now.rule[below((uint32_t)now.rule_len)] = (uint8_t)below(256);
@@ -293,14 +294,16 @@ static uint8_t any_of(const second_position *p)
     return c;
 }
 
-/* Bytes that fill the rule's positions, mostly. */
+/* Bytes that fill the rule's positions, but for one that is left out now and then. */
 static void plan_occurrence(void)
 {
+    uint32_t seldom = now.read.count > 30 ? 4 * (uint32_t)now.read.count : 30;
+
     for (size_t i = 0; i < now.read.count; i++) {
         const second_position *p = &now.read.positions[i];
         uint32_t bytes = p->repeatable ? 1 + below(3) : 1;
 
-        if (one_in(30) || (p->optional && one_in(2)))
+        if (one_in(seldom) || (p->optional && one_in(2)))
             continue;
         while (bytes-- > 0)
             plan_spelt(any_of(p));
@@ -386,6 +389,54 @@ static void make_dense(void)
         now.plan[now.plan_len] = (uint8_t)letters[below(n)];
 }
 
+/* So many positions, of few letters; blocks of optional ones and repeats stand at the borders of words most often. */
+static void put_positions(uint32_t count)
+{
+    uint32_t letters = one_in(10) ? 1 : 2 + below(2), marks = one_in(3) ? 0 : 8;
+
+    while (count > 0) {
+        uint32_t made = (uint32_t)JAZHUPPE_POSITIONS_MOST - count, border = 64 - (made + 1) % 64, most = count < 99 ? count : 99;
+        char gap[32];
+
+        if (marks > 0 && most > 1 && one_in(border < 4 ? 8 : 200)) {
+            uint32_t hi = 1 + below(most);
+
+            snprintf(gap, sizeof gap, "{%lu,%lu}", (unsigned long)below(hi + 1), (unsigned long)hi);
+            put_text(gap);
+            count -= hi;
+            continue;
+        }
+        put((uint8_t)('a' + below(letters)));
+        if (marks > 0 && one_in(border < 4 || border > 62 ? 2 : marks))
+            put((uint8_t)"?+*"[below(3)]);
+        count--;
+    }
+}
+
+/* A rule of many positions, as many as end about the border of a word or any number, and a plan of its occurrences, whole, in
+ * part and nearly. */
+static void make_long(void)
+{
+    static const uint32_t near[] = {62, 63, 64, 65, 126, 127, 128, 129, 190, 191, 192, 193, 253, 254, 255, 256};
+    uint32_t count = one_in(2) ? near[below(sizeof near / sizeof near[0])] : 1 + below(256);
+
+    now.rule_len = 0;
+    now.fold = one_in(8);
+    put_positions(count);
+    now.read = second_read(now.rule, now.rule_len, now.fold);
+    now.plan_len = 0;
+    now.plan_most = 300 + below(400);
+    while (now.plan_len < now.plan_most) {
+        plan_occurrence();
+        if (one_in(3))
+            now.plan_len -= below((uint32_t)now.plan_len + 1) / 4;
+        if (one_in(2))
+            plan_part();
+        else
+            plan_byte((uint8_t)('a' + below(3)));
+    }
+}
+
 /* A list's or buffer's length: what is needed, one less, none, or more. */
 static size_t list_length(size_t needed)
 {
@@ -417,23 +468,24 @@ static void expected_value(uint64_t *value)
 
     memset(value, 0, WORDS * sizeof *value);
     second_filled(&plain.rule, text, length, filled);
-    value[259] = 1;
+    value[STATE] = 1;
     for (size_t i = 1; i <= plain.rule.count; i++) {
         const second_position *p = &plain.rule.positions[i - 1];
+        size_t word = i / 64, bit = i % 64;
 
-        for (size_t c = 0; c < 256; c++)
-            value[c] |= (uint64_t)p->admits[c] << i;
-        value[256] |= (uint64_t)p->repeatable << i;
-        value[257] |= (uint64_t)p->optional << i;
-        value[259] |= (uint64_t)filled[i] << i;
+        for (size_t c = 0; c < PLANE; c++)
+            value[word * PLANE + c] |= (uint64_t)p->admits[c] << bit;
+        value[REPEATS + word] |= (uint64_t)p->repeatable << bit;
+        value[OPTIONAL + word] |= (uint64_t)p->optional << bit;
+        value[STATE + word] |= (uint64_t)filled[i] << bit;
     }
-    value[258] = plain.rule.count;
-    value[260] = plain.finished;
-    value[261] = plain.length;
-    value[262] = length;
-    value[263] = held;
+    value[POSITIONS] = plain.rule.count;
+    value[FINISHED] = plain.finished;
+    value[RAW] = plain.length;
+    value[DECODED] = length;
+    value[HELD] = held;
     for (size_t i = 0; i < held; i++)
-        value[264 + i / 8] |= (uint64_t)plain.taken[plain.length - held + i] << (8 * (i % 8));
+        value[HELD_WORDS + i / 8] |= (uint64_t)plain.taken[plain.length - held + i] << (8 * (i % 8));
 }
 
 static void hold_value(void)
@@ -512,7 +564,7 @@ static bool try_scan_call(bool finish, const uint8_t *bytes, size_t length)
         different("a refused call's scan value");
     if (expected.number == 0)
         hold_value();
-    held_seen += expected.number == 0 && scan[263] > 0;
+    held_seen += expected.number == 0 && scan[HELD] > 0;
     ends_seen += expected.count;
     return expected.number == 0;
 }
@@ -626,6 +678,8 @@ static void draw_case(void)
         make_hostile();
     } else if (one_in(500)) {
         make_dense();
+    } else if (one_in(40)) {
+        make_long();
     } else {
         make_rule();
         make_plan();

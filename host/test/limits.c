@@ -5,9 +5,10 @@
 #include <sys/mman.h>
 
 #include "jazhuppe.h"
+#include "scan_layout.h"
 #include "testing.h"
 
-enum { WORDS = JAZHUPPE_SCAN_WORDS, RAW = 261, DECODED = 262 };
+enum { WORDS = JAZHUPPE_SCAN_WORDS };
 
 /* One byte over the limit, and as much as may be. */
 static const size_t over = (size_t)JAZHUPPE_TEXT_MOST + 1, most = JAZHUPPE_TEXT_MOST;

@@ -4,6 +4,7 @@
 #include <string.h>
 
 #include "jazhuppe.h"
+#include "scan_layout.h"
 #include "testing.h"
 
 enum { MOST = 64, NOT_MARKED = -1 };
@@ -160,21 +161,162 @@ static void show_marked(const marked *m)
     CHECK(shown == m->starts.count);
 }
 
+static void hold_row(const marked *m)
+{
+    jazhuppe_prepared p = jazhuppe_prepare(lend_rule(m->rule), strlen(m->rule), 0);
+    static uint8_t text[2048];
+
+    about("%s", m->name);
+    CHECK(p.number == 0 && p.place == 0 && p.positions == m->positions && p.shortest == m->shortest);
+    CHECK(decoded(m->text, strlen(m->text), text) == strlen(m->text));
+    scan_every_way(m->rule, m->text, &m->ends);
+    search_marked(m);
+    show_marked(m);
+}
+
 static void test_rows(void)
 {
-    for (size_t i = 0; i < MARKED; i++) {
-        const marked *m = &table[i];
-        jazhuppe_prepared p = jazhuppe_prepare(lend_rule(m->rule), strlen(m->rule), 0);
-        uint8_t text[64];
+    for (size_t i = 0; i < MARKED; i++)
+        hold_row(&table[i]);
+}
 
-        about("%s", m->name);
-        CHECK(p.number == 0 && p.place == 0 && p.positions == m->positions && p.shortest == m->shortest);
-        CHECK(decoded(m->text, strlen(m->text), text) == strlen(m->text));
-        scan_every_way(m->rule, m->text, &m->ends);
-        search_marked(m);
-        show_marked(m);
+/* ---- long rules */
+
+static char long_rule[2048], long_text[2048];
+
+static void put(char *to, const char *part, size_t times)
+{
+    while (times-- > 0)
+        strcat(to, part);
+}
+
+/* What stands for itself, both in a rule and in a text. */
+static void put_both(const char *part, size_t times)
+{
+    put(long_rule, part, times);
+    put(long_text, part, times);
+}
+
+static void begin(void)
+{
+    long_rule[0] = long_text[0] = '\0';
+}
+
+/* The rule begins once in the text, at `start`, and ends there once, at `end`; or it does not, where `end` is 0. */
+static void hold_once(const char *name, uint32_t positions, uint32_t shortest, uint32_t start, uint32_t end)
+{
+    marked m = {name, long_rule, long_text, positions, shortest, {end > 0, {end}}, {end > 0, {start}}, NOT_MARKED, {end > 0, {end}}};
+
+    hold_row(&m);
+}
+
+/* Every letter of the alphabet in turn, n of them: the top position stands at bit n, in each word and at its borders. */
+static void test_top_in_each_word(void)
+{
+    static const uint32_t lengths[] = {62, 63, 64, 65, 100, 127, 128, 129, 160, 191, 192, 193, 254, 255};
+
+    for (size_t i = 0; i < sizeof lengths / sizeof lengths[0]; i++) {
+        char name[32];
+
+        begin();
+        put(long_text, "-", 3);
+        for (uint32_t n = 0; n < lengths[i]; n++)
+            put_both((char[]){(char)('a' + n % 26), '\0'}, 1);
+        put(long_text, "-", 1);
+        snprintf(name, sizeof name, "%lu letters", (unsigned long)lengths[i]);
+        hold_once(name, lengths[i], lengths[i], 3, 3 + lengths[i]);
+        /* The last letter is another one. */
+        long_text[2 + lengths[i]] = '-';
+        hold_once(name, lengths[i], lengths[i], 0, 0);
     }
 }
+
+/* A block of eight optional positions over a border, of which so many are filled. */
+static void test_blocks_over_borders(void)
+{
+    for (uint32_t border = 64; border < 256; border += 64)
+        for (uint32_t before = border - 8; before <= border; before++)
+            for (uint32_t filled = 0; filled <= 9; filled++) {
+                char name[64];
+
+                begin();
+                put_both("a", before - 1);
+                put(long_rule, "b?", 8);
+                put(long_text, "b", filled);
+                put_both("c", 1);
+                snprintf(name, sizeof name, "block from bit %lu, %lu filled", (unsigned long)before, (unsigned long)filled);
+                hold_once(name, before + 8, before, 0, filled <= 8 ? before + filled : 0);
+            }
+}
+
+/* The same by a gap, from a byte of its own to one of its own. */
+static void test_gaps_over_borders(void)
+{
+    for (uint32_t gap = 0; gap <= 91; gap++) {
+        char name[32];
+
+        begin();
+        put(long_rule, "R{0,90}S{0,90}H", 1);
+        put(long_text, "R", 1);
+        put(long_text, "x", gap);
+        put(long_text, "S", 1);
+        put(long_text, "x", 90 - gap % 91);
+        put(long_text, "H", 1);
+        snprintf(name, sizeof name, "gaps, the first of %lu", (unsigned long)gap);
+        hold_once(name, 183, 3, 0, gap <= 90 ? 93 : 0);
+    }
+}
+
+/* A repeat at a bit, of none to five bytes; at the last position each byte ends an occurrence. */
+static void test_repeats_at_borders(void)
+{
+    static const uint32_t bits[] = {62, 63, 64, 65, 127, 128, 191, 192, 254, 255};
+
+    for (size_t i = 0; i < sizeof bits / sizeof bits[0]; i++)
+        for (uint32_t times = 0; times <= 5; times++) {
+            bool last = bits[i] == 255;
+            marked m = {"the last position repeats", long_rule, long_text, 255, 255, {times, {255, 256, 257, 258, 259}},
+                        {times > 0, {0}}, NOT_MARKED, {times > 0, {255}}};
+            char name[64];
+
+            begin();
+            put_both("a", bits[i] - 1);
+            put(long_rule, "b+", 1);
+            put(long_text, "b", times);
+            put_both("c", !last);
+            snprintf(name, sizeof name, "repeat at bit %lu, %lu times", (unsigned long)bits[i], (unsigned long)times);
+            if (last)
+                hold_row(&m);
+            else
+                hold_once(name, bits[i] + 1, bits[i] + 1, 0, times > 0 ? bits[i] + times : 0);
+        }
+}
+
+/* 254 optional positions, and one that is not. */
+static void test_all_but_one_optional(void)
+{
+    marked m = {"254 a? and a", long_rule, "aaab", 255, 1, {3, {1, 2, 3}}, {3, {0, 1, 2}}, 4, {3, {1, 2, 3}}};
+
+    begin();
+    put(long_rule, "a?", 254);
+    put(long_rule, "a", 1);
+    hold_row(&m);
+}
+
+/* The shortest length is 255: one window, and two. */
+static void test_longest_window(void)
+{
+    marked one = {"255 a in 255 a", long_rule, long_text, 255, 255, {1, {255}}, {1, {0}}, 1, {1, {255}}};
+    marked two = {"255 a in 256 a", long_rule, long_text, 255, 255, {2, {255, 256}}, {2, {0, 1}}, 2, {2, {255, 256}}};
+
+    begin();
+    put_both("a", 255);
+    hold_row(&one);
+    put(long_text, "a", 1);
+    hold_row(&two);
+}
+
+/* ---- references */
 
 static void test_lister_plan(void)
 {
@@ -370,7 +512,7 @@ static uint64_t *hold_most(void)
     uint64_t *scan = open_scan(".");
 
     feed(scan, tail, strlen(tail), &none);
-    CHECK(strlen(tail) == JAZHUPPE_HELD_MOST && none.count == 0 && scan[263] == JAZHUPPE_HELD_MOST);
+    CHECK(strlen(tail) == JAZHUPPE_HELD_MOST && none.count == 0 && scan[HELD] == JAZHUPPE_HELD_MOST);
     return scan;
 }
 
@@ -386,7 +528,7 @@ static void feed_one_more(const char *byte, uint32_t count, uint64_t held)
     CHECK(a.number == JAZHUPPE_TOO_SHORT && untouched(&list_room));
     list = lend(&list_room, JAZHUPPE_FEED_LIST(1) * sizeof *list);
     a = jazhuppe_feed(scan, JAZHUPPE_SCAN_WORDS, piece, 1, list, JAZHUPPE_FEED_LIST(1));
-    CHECK(a.number == 0 && a.count == count && scan[263] == held && untouched_past(&list_room, count * sizeof *list));
+    CHECK(a.number == 0 && a.count == count && scan[HELD] == held && untouched_past(&list_room, count * sizeof *list));
     for (uint32_t i = 0; i < a.count; i++)
         CHECK(list[i] == i + 1);
 }
@@ -448,11 +590,13 @@ static void test_rule_most(void)
 
 static void test_positions_most(void)
 {
-    jazhuppe_prepared p = jazhuppe_prepare(lend_rule("{1,63}"), 6, 0);
+    jazhuppe_prepared p = jazhuppe_prepare(lend_rule("{1,99}{1,99}{1,57}"), 18, 0);
 
-    CHECK(p.number == 0 && p.positions == JAZHUPPE_POSITIONS_MOST && p.shortest == 1);
+    CHECK(p.number == 0 && p.positions == JAZHUPPE_POSITIONS_MOST && p.shortest == 3);
+    p = jazhuppe_prepare(lend_rule("{1,99}{1,99}{1,57}a"), 19, 0);
+    CHECK(p.number == JAZHUPPE_POSITIONS && p.place == 18);
     p = jazhuppe_prepare(lend_rule("{1,63}a"), 7, 0);
-    CHECK(p.number == JAZHUPPE_POSITIONS && p.place == 6);
+    CHECK(p.number == 0 && p.positions == 64 && p.shortest == 2);
 }
 
 static void test_empty_piece(void)
@@ -507,6 +651,12 @@ static void test_fold(void)
 static void run_all(void)
 {
     run("M1 to M8 and the lister's example: scan, search, show", test_rows);
+    run("long rules: the top position in each word", test_top_in_each_word);
+    run("long rules: blocks of optional positions over each border", test_blocks_over_borders);
+    run("long rules: gaps over each border", test_gaps_over_borders);
+    run("long rules: repeats at the borders", test_repeats_at_borders);
+    run("long rules: all positions optional but one", test_all_but_one_optional);
+    run("long rules: the longest window", test_longest_window);
     run("the lister's plan, with its reference", test_lister_plan);
     run("M9 to M11: references", test_references);
     run("padded forms of up to 32 bytes, and longer ones", test_padded_forms);

@@ -2,6 +2,7 @@
 #include <string.h>
 
 #include "jazhuppe.h"
+#include "scan_layout.h"
 #include "testing.h"
 
 
@@ -11,6 +12,9 @@ typedef struct {
 } refused_rule;
 
 /* The requirement's rows 1 to 8, its edges, and how docs/DECISIONS.md reads its open corners. */
+/* 255 positions, in 18 bytes. */
+#define FULL "{1,99}{1,99}{1,57}"
+
 static const refused_rule refused_rules[] = {
     {"", 0, 1, 0},
     {"[a", 0, 3, 0}, {"[", 0, 3, 0}, {"x[]", 0, 3, 1}, {"[^]", 0, 3, 0}, {"[]a]", 0, 3, 0}, {"[b-a]", 0, 3, 0},
@@ -21,19 +25,19 @@ static const refused_rule refused_rules[] = {
     {"{2,1}", 0, 4, 0}, {"{99,98}", 0, 4, 0}, {"{001,2}", 0, 4, 0}, {"{1,002}", 0, 4, 0}, {"{1, 2}", 0, 4, 0},
     {"{1;2}", 0, 4, 0}, {"ab{1,2", 0, 4, 2},
     {"?", 0, 5, 0}, {"+a", 0, 5, 0}, {"*", 0, 5, 0}, {"a??", 0, 5, 2}, {"a+*", 0, 5, 2}, {"{1,2}?", 0, 5, 5},
-    {"{1,63}?", 0, 5, 6},
+    {"{1,63}?", 0, 5, 6}, {FULL "?", 0, 5, 18}, {"{1,99}?", 0, 5, 6}, {"{1,63}a??", 0, 5, 8},
     {"]", 0, 6, 0}, {"a}", 0, 6, 1}, {"\\", 0, 6, 0}, {"ab\\", 0, 6, 2}, {"\\a", 0, 6, 0}, {"a\\&", 0, 6, 1},
     {"[a]]", 0, 6, 3},
-    {"{1,64}", 0, 7, 0}, {"{1,99}", 0, 7, 0}, {"{1,63}a", 0, 7, 6}, {"{1,99}?", 0, 7, 0}, {"{1,63}a??", 0, 7, 6},
-    {"a{63,63}", 0, 7, 1}, {"{1,63}\\.", 0, 7, 6}, {"{1,63}[a]", 0, 7, 6},
-    {"{1,63}[b-a]", 0, 3, 6}, {"{1,63}{2,1}", 0, 4, 6}, {"{1,63}]", 0, 6, 6},
-    {"a?", 0, 8, 2}, {"a*b?", 0, 8, 4}, {"{0,63}", 0, 8, 6}, {"{0,1}.*", 0, 8, 7},
+    {"{1,99}{1,99}{1,58}", 0, 7, 12}, {"{1,99}{1,99}{1,99}", 0, 7, 12}, {FULL "a", 0, 7, 18}, {"{1,99}{1,99}{1,99}?", 0, 7, 12},
+    {FULL "a??", 0, 7, 18}, {"a{99,99}{99,99}{57,57}", 0, 7, 15}, {FULL "\\.", 0, 7, 18}, {FULL "[a]", 0, 7, 18},
+    {FULL "[b-a]", 0, 3, 18}, {FULL "{2,1}", 0, 4, 18}, {FULL "]", 0, 6, 18},
+    {"a?", 0, 8, 2}, {"a*b?", 0, 8, 4}, {"{0,63}", 0, 8, 6}, {"{0,99}{0,99}{0,57}", 0, 8, 18}, {"{0,1}.*", 0, 8, 7},
 };
 
 /* Rules that pass, beside those. */
 static const char *const accepted_rules[] = {
     "^", "-", ",", "1", "&amp;", "[^^]", "[a^]", "[\\^a]", "[\\--a]", "[+-\\-]", "[.?+*{}[]", "[\\]]", "{01,02}",
-    "{1,63}", "\\.\\[\\]\\{\\}\\?\\+\\*\\\\\\^\\-", "a?b", "{0,1}a", "\n",
+    "{1,63}", "{1,63}a", "{1,64}", "{1,99}", "{1,63}[a]", "a{63,63}", FULL, "{1,99}{1,99}{1,56}a", "\\.\\[\\]\\{\\}\\?\\+\\*\\\\\\^\\-", "a?b", "{0,1}a", "\n",
 };
 
 static jazhuppe_answer refusal(uint32_t number, uint32_t place)
@@ -83,15 +87,16 @@ static void test_rules(void)
 /* 2 goes before every fault inside the rule. */
 static void test_long_rules(void)
 {
-    uint8_t rule[512];
+    uint8_t rule[2000];
 
     memset(rule, '?', sizeof rule);
-    refuses(rule, 256, 0, JAZHUPPE_RULE_LONG, 255);
-    refuses(rule, sizeof rule, 0, JAZHUPPE_RULE_LONG, 255);
-    refuses(rule, 255, 0, JAZHUPPE_MARK, 0);
+    refuses(rule, 1024, 0, JAZHUPPE_RULE_LONG, 1023);
+    refuses(rule, sizeof rule, 0, JAZHUPPE_RULE_LONG, 1023);
+    refuses(rule, 1023, 0, JAZHUPPE_MARK, 0);
     memset(rule, 'a', sizeof rule);
-    refuses(rule, 256, 1, JAZHUPPE_RULE_LONG, 255);
-    refuses(rule, 255, 1, JAZHUPPE_POSITIONS, 63);
+    refuses(rule, 1024, 1, JAZHUPPE_RULE_LONG, 1023);
+    refuses(rule, 1023, 1, JAZHUPPE_POSITIONS, 255);
+    refuses(rule, 256, 0, JAZHUPPE_POSITIONS, 255);
 }
 
 /* [^..] with every byte: left with none. And without the letters' small case, where the fold flag alone decides. */
@@ -196,16 +201,16 @@ static void test_order_of_scan_calls(void)
 {
     uint64_t *scan = open_scan("a");
 
-    scan[261] = JAZHUPPE_TEXT_MOST;
-    scan[260] = 1;
-    scan[258] = 64;
+    scan[RAW] = JAZHUPPE_TEXT_MOST;
+    scan[FINISHED] = 1;
+    scan[POSITIONS] = JAZHUPPE_POSITIONS_MOST + 1;
     lent_anew(&scan_room);
     both_refuse(JAZHUPPE_SCAN_WORDS, 1, 0, 0, JAZHUPPE_IMPOSSIBLE);
-    scan[258] = 63;
+    scan[POSITIONS] = JAZHUPPE_POSITIONS_MOST;
     lent_anew(&scan_room);
     both_refuse(JAZHUPPE_SCAN_WORDS - 1, 1, 0, 0, JAZHUPPE_IMPOSSIBLE);
     both_refuse(JAZHUPPE_SCAN_WORDS, 1, 0, 0, JAZHUPPE_FINISHED);
-    scan[260] = 0;
+    scan[FINISHED] = 0;
     lent_anew(&scan_room);
     CHECK(same_answer(jazhuppe_feed(scan, JAZHUPPE_SCAN_WORDS, lend(&text_room, 1), 1, lend(&list_room, 0), 0),
                       refusal(JAZHUPPE_TOO_MUCH, 0)));

@@ -5,13 +5,11 @@
 
 #include "jazhuppe.h"
 #include "random.h"
+#include "scan_layout.h"
 #include "second.h"
 #include "testing.h"
 
-/* The fields. */
-enum { REPEATS = 256, OPTIONAL, POSITIONS, STATE, FINISHED, RAW, DECODED, HELD, HELD_WORDS };
-enum { WORDS = JAZHUPPE_SCAN_WORDS, HELD_MOST = JAZHUPPE_HELD_MOST };
-
+enum { WORDS = JAZHUPPE_SCAN_WORDS, HELD_MOST = JAZHUPPE_HELD_MOST, PIECE_MOST = 3000 };
 
 static bool answers(jazhuppe_answer a, uint32_t number, uint32_t count)
 {
@@ -84,7 +82,7 @@ static void test_fields(void)
     static const uint64_t over[] = {(uint64_t)1 << 32, (uint64_t)1 << 63, UINT64_MAX};
 
     field_refused(POSITIONS, 0);
-    field_refused(POSITIONS, 64);
+    field_refused(POSITIONS, JAZHUPPE_POSITIONS_MOST + 1);
     field_refused(FINISHED, 2);
     field_refused(HELD, HELD_MOST + 1);
     field_refused(DECODED, 101);
@@ -188,27 +186,107 @@ static void test_all_alike(void)
 
 /* ---- by hand */
 
-/* "Then Df = D or F, and D gains A and ((not (Df - I)) xor Df)." */
-static uint64_t second_half(uint64_t d, uint64_t a)
-{
-    uint64_t i = (a >> 1) & ~a, f = a & ~(a >> 1), df = d | f;
+/* Numbers of 256 bits, in limbs of 32, the lowest first. */
+enum { LIMBS = 8 };
 
-    return d | (a & (~(df - i) ^ df));
+typedef struct {
+    uint64_t limb[LIMBS];
+} number;
+
+static number number_of(const uint64_t *words, size_t apart)
+{
+    number n;
+
+    for (size_t i = 0; i < LIMBS; i++)
+        n.limb[i] = words[i / 2 * apart] >> (32 * (i % 2)) & 0xFFFFFFFFu;
+    return n;
 }
 
-/* "((D shifted up by one, bit 63 dropping out) and B[c]) or (D and S[c]) or 1" */
-static uint64_t step(const uint64_t *value, uint64_t d, uint8_t c)
+static void put_number(uint64_t *words, number n)
 {
-    uint64_t b = value[c], s = b & value[REPEATS];
+    for (size_t i = 0; i < FOUR; i++)
+        words[i] = n.limb[2 * i] | n.limb[2 * i + 1] << 32;
+}
 
-    return second_half(((d << 1) & b) | (d & s) | 1, value[OPTIONAL]);
+static number both(number a, number b)
+{
+    for (size_t i = 0; i < LIMBS; i++)
+        a.limb[i] &= b.limb[i];
+    return a;
+}
+
+static number either(number a, number b)
+{
+    for (size_t i = 0; i < LIMBS; i++)
+        a.limb[i] |= b.limb[i];
+    return a;
+}
+
+static number differing(number a, number b)
+{
+    for (size_t i = 0; i < LIMBS; i++)
+        a.limb[i] ^= b.limb[i];
+    return a;
+}
+
+static number others_of(number a)
+{
+    for (size_t i = 0; i < LIMBS; i++)
+        a.limb[i] ^= 0xFFFFFFFFu;
+    return a;
+}
+
+static number up_by_one(number a)
+{
+    for (size_t i = LIMBS; i-- > 0;)
+        a.limb[i] = (a.limb[i] << 1 | (i == 0 ? 0 : a.limb[i - 1] >> 31)) & 0xFFFFFFFFu;
+    return a;
+}
+
+static number down_by_one(number a)
+{
+    for (size_t i = 0; i < LIMBS; i++)
+        a.limb[i] = a.limb[i] >> 1 | (i + 1 == LIMBS ? 0 : (a.limb[i + 1] & 1) << 31);
+    return a;
+}
+
+static number minus(number a, number b)
+{
+    uint64_t borrow = 0;
+
+    for (size_t i = 0; i < LIMBS; i++) {
+        uint64_t difference = a.limb[i] - b.limb[i] - borrow;
+
+        borrow = difference >> 63;
+        a.limb[i] = difference & 0xFFFFFFFFu;
+    }
+    return a;
+}
+
+/* "Then Df = D or F, and D gains A and ((not (Df - I)) xor Df)." */
+static number second_half(number d, number a)
+{
+    number i = both(down_by_one(a), others_of(a)), f = both(a, others_of(down_by_one(a))), df = either(d, f);
+
+    return either(d, both(a, differing(others_of(minus(df, i)), df)));
+}
+
+/* "((D shifted up by one, bit 255 dropping out) and B[c]) or (D and S[c]) or 1" */
+static number step(const uint64_t *value, number d, uint8_t c)
+{
+    number b = number_of(value + c, PLANE), s = both(b, number_of(value + REPEATS, 1));
+    number moved = either(both(up_by_one(d), b), both(d, s));
+
+    moved.limb[0] |= 1;
+    return second_half(moved, number_of(value + OPTIONAL, 1));
 }
 
 /* What a call makes of a possible value: the value after it, and the ends. */
 static size_t stepped(uint64_t *value, const uint8_t *piece, size_t length, bool finish, uint32_t *ends)
 {
-    uint8_t raw[128], text[128];
-    size_t taken = value[HELD], held, decoded, count = 0;
+    static uint8_t raw[PIECE_MOST + HELD_MOST], text[PIECE_MOST + HELD_MOST];
+    size_t taken = value[HELD], held, decoded, count = 0, top = value[POSITIONS];
+    number d = number_of(value + STATE, 1);
 
     for (size_t i = 0; i < taken; i++)
         raw[i] = held_byte(value, i);
@@ -217,10 +295,11 @@ static size_t stepped(uint64_t *value, const uint8_t *piece, size_t length, bool
     held = finish ? 0 : second_held(raw, taken);
     decoded = second_decoded(raw, taken - held, text);
     for (size_t i = 0; i < decoded; i++) {
-        value[STATE] = step(value, value[STATE], text[i]);
-        if ((value[STATE] >> value[POSITIONS] & 1) != 0)
+        d = step(value, d, text[i]);
+        if ((d.limb[top / 32] >> top % 32 & 1) != 0)
             ends[count++] = (uint32_t)(value[DECODED] + i + 1);
     }
+    put_number(value + STATE, d);
     value[FINISHED] = finish;
     value[RAW] += length;
     value[DECODED] += decoded;
@@ -245,17 +324,60 @@ static uint64_t random_mask(random_source *r)
     }
 }
 
-static void random_value(random_source *r, uint64_t *value)
+static void random_words(random_source *r, uint64_t *words, size_t used)
+{
+    for (size_t i = 0; i < used; i++)
+        words[i] = random_mask(r);
+}
+
+/* Any table, masks and state in the first so many words, the others empty. */
+static void any_rule(random_source *r, uint64_t *value, size_t used)
+{
+    for (size_t c = 0; c < used * PLANE; c++)
+        value[c] = random_mask(r);
+    random_words(r, value + REPEATS, used);
+    random_words(r, value + OPTIONAL, used);
+    random_words(r, value + STATE, used);
+    value[POSITIONS] = 1 + random_below(r, JAZHUPPE_POSITIONS_MOST);
+}
+
+static void set_bit(uint64_t *words, size_t apart, size_t bit)
+{
+    words[bit / 64 * apart] |= (uint64_t)1 << bit % 64;
+}
+
+/* Such a value as a rule of letters makes, with so many positions, some of them optional or repeatable; a few bits may be
+ * wrong. The letters of its positions come out too. */
+static void likely_rule(random_source *r, uint64_t *value, char *letters)
+{
+    size_t positions = 1 + random_below(r, JAZHUPPE_POSITIONS_MOST);
+    uint32_t optional = random_below(r, 4), repeats = random_below(r, 3);
+
+    for (size_t i = 1; i <= positions; i++) {
+        letters[i - 1] = (char)('a' + random_below(r, 3));
+        set_bit(value + letters[i - 1], PLANE, i);
+        if (random_below(r, 8) < optional)
+            set_bit(value + OPTIONAL, 1, i);
+        if (random_below(r, 8) < repeats)
+            set_bit(value + REPEATS, 1, i);
+    }
+    letters[positions] = '\0';
+    value[POSITIONS] = positions;
+    value[STATE] = 1;
+    for (uint32_t wrong = random_below(r, 3); wrong > 0; wrong--)
+        set_bit(value + random_below(r, 2) * OPTIONAL + random_below(r, FOUR), 1, random_below(r, 64));
+}
+
+static void random_value(random_source *r, uint64_t *value, char *letters)
 {
     static const char *const tails[] = {"", "", "&", "&am", "&#", "&#00000000000000000000000000038", "&#x1F60", "&quot"};
 
     memset(value, 0, WORDS * sizeof *value);
-    for (size_t c = 0; c < 256; c++)
-        value[c] = random_mask(r);
-    value[REPEATS] = random_mask(r);
-    value[OPTIONAL] = random_mask(r);
-    value[POSITIONS] = 1 + random_below(r, 63);
-    value[STATE] = random_mask(r);
+    letters[0] = '\0';
+    if (random_below(r, 2) == 0)
+        any_rule(r, value, 1 + random_below(r, FOUR));
+    else
+        likely_rule(r, value, letters);
     value[RAW] = 40 + random_below(r, random_below(r, 2) == 0 ? 100 : 4000000000u);
     hold(value, tails[random_below(r, 8)]);
     value[DECODED] -= random_below(r, (uint32_t)value[DECODED]);
@@ -264,20 +386,23 @@ static void random_value(random_source *r, uint64_t *value)
         put_held_byte(value, i, (uint8_t)random_below(r, 256));
 }
 
-static size_t random_piece(random_source *r, uint8_t *piece)
+/* Parts of references, bytes of any kind, and runs of the letters, some of them whole. */
+static size_t random_piece(random_source *r, const char *letters, uint8_t *piece)
 {
     static const char *const parts[] = {"&amp;", "&", "&#", "38;", "amp;", "x26;", "&#x1F600;", ";", "&#00000000000000000000000000038",
                                         "0000000000000000000038;"};
-    size_t length = 0, most = random_below(r, 80);
+    size_t length = 0, most = random_below(r, random_below(r, 4) == 0 ? PIECE_MOST : 80);
 
     while (length < most) {
-        const char *part = parts[random_below(r, sizeof parts / sizeof parts[0])];
+        bool reference = random_below(r, letters[0] == '\0' ? 3 : 12) == 0;
+        const char *part = reference ? parts[random_below(r, sizeof parts / sizeof parts[0])] : letters;
+        size_t from = reference || random_below(r, 2) == 0 ? 0 : random_below(r, 1 + (uint32_t)strlen(part));
 
-        if (random_below(r, 3) == 0 && length + strlen(part) <= most) {
-            memcpy(piece + length, part, strlen(part));
-            length += strlen(part);
+        if ((reference || letters[0] != '\0') && length + strlen(part + from) <= most && random_below(r, 8) > 0) {
+            memcpy(piece + length, part + from, strlen(part + from));
+            length += strlen(part + from);
         } else {
-            piece[length++] = (uint8_t)random_below(r, 256);
+            piece[length++] = letters[0] != '\0' && random_below(r, 4) > 0 ? (uint8_t)('a' + random_below(r, 3)) : (uint8_t)random_below(r, 256);
         }
     }
     return length;
@@ -286,15 +411,16 @@ static size_t random_piece(random_source *r, uint8_t *piece)
 /* Some feeds and a finish, each held against the formula. */
 static void by_hand(random_source *r)
 {
-    uint64_t expected[WORDS], *scan;
-    uint32_t ends[128];
+    static uint64_t expected[WORDS], *scan;
+    static uint32_t ends[PIECE_MOST + HELD_MOST];
+    static uint8_t piece[PIECE_MOST];
+    char letters[JAZHUPPE_POSITIONS_MOST + 1];
 
-    random_value(r, expected);
+    random_value(r, expected, letters);
     scan = lend_bytes(&scan_room, expected, sizeof expected);
     for (int call = 0; call < 4; call++) {
         bool finish = call == 3;
-        uint8_t piece[80];
-        size_t length = finish ? 0 : random_piece(r, piece), list = JAZHUPPE_FEED_LIST(length);
+        size_t length = finish ? 0 : random_piece(r, letters, piece), list = JAZHUPPE_FEED_LIST(length);
         size_t count = stepped(expected, piece, length, finish, ends);
         uint32_t *given = lend(&list_room, list * sizeof *given);
         const uint8_t *bytes = lend_bytes(&text_room, piece, length);
@@ -323,8 +449,8 @@ static void test_by_hand(void)
 int main(void)
 {
     scan_room = lent_room(2 * WORDS * sizeof(uint64_t));
-    text_room = lent_room(256);
-    list_room = lent_room(1024);
+    text_room = lent_room(PIECE_MOST);
+    list_room = lent_room(JAZHUPPE_FEED_LIST(PIECE_MOST) * sizeof(uint32_t));
     run("11: each field with a number that it cannot hold", test_fields);
     run("a held word with any number", test_held_words);
     run("11: decoded and held counts over the count taken", test_counts);

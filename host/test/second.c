@@ -349,21 +349,27 @@ size_t second_held(const uint8_t *raw, size_t raw_len)
 
 /* ---- occurrences */
 
-/* What shares reach from one start: tried[i][at], the first i positions can fill the bytes from the start to at. */
+/* What shares reach from one start: where tried[i][at] is `turn`, the first i positions can fill the bytes from the start to
+ * at. Each start has its turn, so that nothing need be cleared. */
 typedef struct {
     const second_rule *rule;
     const uint8_t *text;
     size_t length;
-    bool tried[JAZHUPPE_POSITIONS_MOST + 1][SECOND_PLAN_MOST + 1];
+    uint64_t turn, tried[JAZHUPPE_POSITIONS_MOST + 1][SECOND_PLAN_MOST + 1];
 } cutting;
+
+static bool fills(const cutting *c, size_t i, size_t at)
+{
+    return c->tried[i][at] == c->turn;
+}
 
 static void cut(cutting *c, size_t i, size_t at)
 {
     const second_position *p;
 
-    if (c->tried[i][at])
+    if (fills(c, i, at))
         return;
-    c->tried[i][at] = true;
+    c->tried[i][at] = c->turn;
     if (i == c->rule->count)
         return;
     p = &c->rule->positions[i];
@@ -386,8 +392,7 @@ static cutting *cuts_from(const second_rule *rule, const uint8_t *text, size_t l
     c.rule = rule;
     c.text = text;
     c.length = length;
-    for (size_t i = 0; i <= rule->count; i++)
-        memset(c.tried[i], 0, (length + 1) * sizeof c.tried[i][0]);
+    c.turn++;
     cut(&c, 0, start);
     return &c;
 }
@@ -399,17 +404,17 @@ void second_filled(const second_rule *rule, const uint8_t *text, size_t text_len
         const cutting *c = cuts_from(rule, text, text_len, start);
 
         for (size_t i = 0; i <= rule->count; i++)
-            filled[i] = filled[i] || c->tried[i][text_len];
+            filled[i] = filled[i] || fills(c, i, text_len);
     }
 }
 
 /* The earliest end of an occurrence that starts there, or 0. */
 static size_t earliest_end(const second_rule *rule, const uint8_t *text, size_t length, size_t start)
 {
-    const bool *ends = cuts_from(rule, text, length, start)->tried[rule->count];
+    const cutting *c = cuts_from(rule, text, length, start);
 
     for (size_t end = start; end <= length; end++)
-        if (ends[end])
+        if (fills(c, rule->count, end))
             return end;
     return 0;
 }
@@ -421,10 +426,10 @@ static size_t ends_over(const second_rule *rule, const uint8_t *text, size_t len
     size_t count = 0;
 
     for (size_t start = 0; start < length; start++) {
-        const bool *some = cuts_from(rule, text, length, start)->tried[rule->count];
+        const cutting *c = cuts_from(rule, text, length, start);
 
         for (size_t end = from + 1; end <= length; end++)
-            is_end[end] = is_end[end] || some[end];
+            is_end[end] = is_end[end] || fills(c, rule->count, end);
     }
     for (size_t end = from + 1; end <= length; end++)
         if (is_end[end])
@@ -441,7 +446,7 @@ static bool begins(const second_rule *rule, const uint8_t *bytes, size_t length)
     const cutting *c = cuts_from(rule, bytes, length, 0);
 
     for (size_t i = 0; i <= rule->count; i++)
-        if (c->tried[i][length])
+        if (fills(c, i, length))
             return true;
     return false;
 }

@@ -108,10 +108,10 @@ lent rule_room, text_room, scan_room, list_room;
 
 int run_in_small_rooms(const char *program, void (*tests)(void))
 {
-    rule_room = lent_room(1024);
-    text_room = lent_room(1024);
-    scan_room = lent_room(4096);
-    list_room = lent_room(1024);
+    rule_room = lent_room(2048);
+    text_room = lent_room(2048);
+    scan_room = lent_room(16384);
+    list_room = lent_room(8192);
     run_both_ways(tests);
     return finished(program);
 }

@@ -6,7 +6,7 @@ ghost use Rattle.answers.specs.Answers.{refusing, counting, refusingRule
 // "rule of length 0"
 pub const RULE_EMPTY: u32 = 1;
 
-// "rule over 255 bytes"
+// "rule over 1,023 bytes"
 pub const RULE_LONG: u32 = 2;
 
 // "class unclosed, empty, with a reversed range, a bad `\` or misplaced `-`, or left with no byte"
@@ -21,7 +21,7 @@ pub const MARK_FAULT: u32 = 5;
 // "outside a class: bad or last `\`, or stray `]` or `}`"
 pub const BYTE_FAULT: u32 = 6;
 
-// "it takes the positions past 63"
+// "it takes the positions past 255"
 pub const TOO_MANY_POSITIONS: u32 = 7;
 
 // "the empty string is admitted"

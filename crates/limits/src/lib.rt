@@ -1,11 +1,11 @@
 // The limits of document 01, each under one name; `model` has the same (`ruleLimit` and so on), and the
 // header for a host. No code.
 
-// "A rule is 1 to 255 bytes".
-pub const RULE_LIMIT: usize = 255;
+// "A rule is 1 to 1,023 bytes".
+pub const RULE_LIMIT: usize = 1023;
 
-// "A rule has at most 63" positions.
-pub const POSITION_LIMIT: u32 = 63;
+// "A rule has at most 255", positions.
+pub const POSITION_LIMIT: u32 = 255;
 
 // "at most 32 bytes from `&` to `;`, leading zeros included".
 pub const FORM_LIMIT: usize = 32;

@@ -31,18 +31,21 @@ rulesHold fold (r ∷ rs) = ruleHolds fold r && rulesHold fold rs
 
 rules : T (rulesHold false (
     refuses [] 1 0
-    ∷ has (replicate 63 97) 63 63
-    ∷ refuses (replicate 64 97) 7 63
-    ∷ refuses (ascii "[" ++ replicate 253 97) 3 0  -- 254 bytes
-    ∷ has (ascii "[" ++ replicate 253 97 ++ ascii "]") 1 1  -- 255 bytes
-    ∷ refuses (replicate 256 97) 2 255
+    ∷ has (replicate 255 97) 255 255
+    ∷ refuses (replicate 256 97) 7 255
+    ∷ refuses (ascii "[" ++ replicate 1021 97) 3 0  -- 1,022 bytes
+    ∷ has (ascii "[" ++ replicate 1021 97 ++ ascii "]") 1 1  -- 1,023 bytes
+    ∷ refuses (replicate 1024 97) 2 1023
     ∷ has (ascii "{1,63}") 63 1
     ∷ has (ascii "{01,02}") 2 1
-    ∷ refuses (ascii "{1,63}a") 7 6
-    ∷ refuses (ascii "{1,64}") 7 0
-    ∷ refuses (ascii "{1,99}?") 7 0
+    ∷ has (ascii "{1,63}a") 64 2  -- "so `{1,63}a` passes"
+    ∷ has (ascii "{1,64}") 64 1
+    ∷ has (ascii "{1,99}{1,99}{1,57}") 255 3
+    ∷ refuses (ascii "{1,99}{1,99}{1,57}a") 7 18
+    ∷ refuses (ascii "{1,99}{1,99}{1,58}") 7 12
+    ∷ refuses (ascii "{1,99}?") 5 6
     ∷ refuses (ascii "{1,63}?") 5 6
-    ∷ refuses (ascii "{1,63}a??") 7 6
+    ∷ refuses (ascii "{1,63}a??") 5 8
     ∷ refuses (ascii "{1,63}[b-a]") 3 6
     ∷ refuses (ascii "{99,98}") 4 0
     ∷ refuses (ascii "{0,0}") 4 0

@@ -22,7 +22,7 @@ abbrev pub addElement : Element → Parsed → Parsed
 addElement e (refused n p) = refused n p
 addElement e (accepted es) = accepted (e ∷ es)
 
--- "the leftmost of 3 to 7 (an element's own fault before 7)". Row 7, "place of the element": "it takes the positions past 63", here past `most`. The
+-- "the leftmost of 3 to 7 (an element's own fault before 7)". Row 7, "place of the element": "it takes the positions past 255", here past `most`. The
 -- elements from `place` on, after `used` positions; the first `skip` bytes belong to an element already read.
 abbrev pub elementsFrom : (most : ℕ) (fold : Bool) (skip place used : ℕ) → List ℕ → Parsed
 elementsFrom most fold skip place used [] = accepted []
@@ -42,7 +42,7 @@ abbrev pub orEmpty : (fold : Bool) → List ℕ → Parsed → Parsed
 orEmpty fold rule (refused n p) = refused n p
 orEmpty fold rule (accepted es) = cond (eqb (shortest (positions fold es)) 0) (refused admitsEmpty (length rule)) (accepted es)
 
--- Row 1, "place 0": "rule of length 0". Row 2, "place 255": "rule over 255 bytes". "1 and 2 come first, then the leftmost of 3 to 7 .., then 8." For any
+-- Row 1, "place 0": "rule of length 0". Row 2, "place 1,023": "rule over 1,023 bytes". "1 and 2 come first, then the leftmost of 3 to 7 .., then 8." For any
 -- limits of a rule's length and positions, and for those of this paper.
 abbrev pub parseWithin : (longest most : ℕ) (fold : Bool) → List ℕ → Parsed
 parseWithin longest most fold rule =

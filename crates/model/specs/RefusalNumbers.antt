@@ -5,7 +5,7 @@ use Prim.Native.Nat.{ℕ}
 abbrev pub ruleEmpty : ℕ
 ruleEmpty = 1
 
--- "rule over 255 bytes"
+-- "rule over 1,023 bytes"
 abbrev pub ruleLong : ℕ
 ruleLong = 2
 
@@ -25,7 +25,7 @@ markFault = 5
 abbrev pub byteFault : ℕ
 byteFault = 6
 
--- "it takes the positions past 63"
+-- "it takes the positions past 255"
 abbrev pub tooManyPositions : ℕ
 tooManyPositions = 7
 

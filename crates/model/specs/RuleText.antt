@@ -9,13 +9,13 @@ use Rattle.model.specs.RefusalNumbers.{classFault, gapFault, markFault, 
 use Rattle.model.specs.Ascii.{byteOf, ascii}
 use Rattle.model.specs.Occurrence.{Position}
 
--- "A rule is 1 to 255 bytes".
+-- "A rule is 1 to 1,023 bytes".
 abbrev pub ruleLimit : ℕ
-ruleLimit = 255
+ruleLimit = 1023
 
--- "A rule has at most 63" positions.
+-- "A rule has at most 255", positions.
 abbrev pub positionLimit : ℕ
-positionLimit = 63
+positionLimit = 255
 
 abbrev pub oneOf : List ℕ → ℕ → Bool
 oneOf [] c = false

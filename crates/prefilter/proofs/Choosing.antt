@@ -1,6 +1,6 @@
 -- What each kind of prefilter promises, from what was read off the table. Assumes nothing.
 use mathlib.Core.Path.{_≡_, refl, sym, _∙_}
-use mathlib.Core.Bool.{Bool, true, false, _&&_}
+use mathlib.Core.Bool.{Bool, true, false, _&&_, true≢false}
 use mathlib.Core.List.{List}
 use Prim.Native.Nat.{ℕ, _+_, _-_, _*_, _%_, _^_, _<_}
 use native.Mathlib.Omega.{arith}
@@ -38,19 +38,19 @@ start-is repeats optional top home next r eh en er z = record { opens = eh; goes
 
 -- nothing is passed over
 pub plan-none : (t : List ℕ) (repeats optional top home next lo hi a b : ℕ)
-    → PrefilterSound t repeats optional top (record { kind = 0; start = home; next = next; lo = lo; hi = hi; a = a; b = b })
+    → PrefilterSound t repeats optional top (record { kind = 0; start = home; next = next; lo = lo; hi = hi; a = a; b = b; clear = false })
 plan-none t repeats optional top home next lo hi a b =
-    record { start = λ n. absurd (n refl); one = λ e. absurd (omega arith); range = λ e. absurd (omega arith); pair = λ e. absurd (omega arith) }
+    record { start = λ n. absurd (n refl); one = λ e. absurd (omega arith); range = λ e. absurd (omega arith); pair = λ e. absurd (omega arith); clear = λ e. absurd (true≢false (sym e)) }
 
 module _ (t : List ℕ) {repeats optional top home next : ℕ} (h : StartState repeats optional top home next) where
-  pub plan-table : {lo hi a b : ℕ} → PrefilterSound t repeats optional top (record { kind = 1; start = home; next = next; lo = lo; hi = hi; a = a; b = b })
-  plan-table = record { start = λ k. h; one = λ e. absurd (omega arith); range = λ e. absurd (omega arith); pair = λ e. absurd (omega arith) }
+  pub plan-table : {lo hi a b : ℕ} → PrefilterSound t repeats optional top (record { kind = 1; start = home; next = next; lo = lo; hi = hi; a = a; b = b; clear = false })
+  plan-table = record { start = λ k. h; one = λ e. absurd (omega arith); range = λ e. absurd (omega arith); pair = λ e. absurd (omega arith); clear = λ e. absurd (true≢false (sym e)) }
 
   module _ {lo past : ℕ} (n : length t ≡ 256) (g : NoneBefore (meets t next) 0 256 lo) (g′ : NoneBefore (meets t next) past 256 256) where
     pub plan-one : {a b : ℕ} → lo < past → lo ≡ past - 1
-        → PrefilterSound t repeats optional top (record { kind = 2; start = home; next = next; lo = lo; hi = lo; a = a; b = b })
-    plan-one l e = record { start = λ k. h; one = λ k. inside t next lo lo past n g g′ (omega arith); range = λ e. absurd (omega arith); pair = λ e. absurd (omega arith) }
+        → PrefilterSound t repeats optional top (record { kind = 2; start = home; next = next; lo = lo; hi = lo; a = a; b = b; clear = false })
+    plan-one l e = record { start = λ k. h; one = λ k. inside t next lo lo past n g g′ (omega arith); range = λ e. absurd (omega arith); pair = λ e. absurd (omega arith); clear = λ e. absurd (true≢false (sym e)) }
 
     pub plan-range : {a b : ℕ} → lo < past
-        → PrefilterSound t repeats optional top (record { kind = 3; start = home; next = next; lo = lo; hi = past - 1; a = a; b = b })
-    plan-range l = record { start = λ k. h; one = λ e. absurd (omega arith); range = λ k. inside t next lo (past - 1) past n g g′ (omega arith); pair = λ e. absurd (omega arith) }
+        → PrefilterSound t repeats optional top (record { kind = 3; start = home; next = next; lo = lo; hi = past - 1; a = a; b = b; clear = false })
+    plan-range l = record { start = λ k. h; one = λ e. absurd (omega arith); range = λ k. inside t next lo (past - 1) past n g g′ (omega arith); pair = λ e. absurd (omega arith); clear = λ e. absurd (true≢false (sym e)) }

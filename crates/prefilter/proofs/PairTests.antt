@@ -15,7 +15,8 @@ use Rattle.model.proofs.Truth.{or-false-left, or-false-right, T-to}
 use Rattle.shift_and.specs.Bit.{bit}
 use Rattle.shift_and.proofs.Digits.{or-bit, none-bit}
 use Rattle.shift_and.proofs.DisjointBits.{clear-at}
-use Rattle.prefilter.specs.Soundness.{StartState, Union, UnionWithout, ClearBit, LiteralPrefix, PairTested, PairSound, PrefilterSound}
+use Rattle.prefilter.specs.declared.PairTest.{PairTest}
+use Rattle.prefilter.specs.Soundness.{StartState, Union, UnionWithout, ClearBit, ClearOfBoth, LiteralPrefix, PairTested, PairSound, PrefilterSound}
 
 -- ---- the bits of all the entries but two
 
@@ -73,8 +74,14 @@ clear-yes t w p y k c e q = record {
 
 -- ---- the pair
 
-pub fit-no : (t : List ℕ) (repeats optional top p q x y : ℕ) → PairTested t repeats optional top p q x y false
-fit-no t repeats optional top p q x y = record { pair = λ e. absurd (T-to (sym e) tt) }
+pub fit-no : (t : List ℕ) (repeats optional top p q x y : ℕ) → PairTested t repeats optional top p q x y (record { sound = false; clear = false })
+fit-no t repeats optional top p q x y = record { pair = λ e. absurd (T-to (sym e) tt); clear = λ e. absurd (T-to (sym e) tt) }
+
+pub both-no : (t : List ℕ) (w x y : ℕ) → ClearOfBoth t w x y false
+both-no t w x y = record { word = λ e. absurd (T-to (sym e) tt); first = λ e. absurd (T-to (sym e) tt); second = λ e. absurd (T-to (sym e) tt) }
+
+pub both-yes : (t : List ℕ) (w x y : ℕ) (a b : Bool) → ClearBit t w 63 x a → a ≡ true → ClearBit t w 63 y b → ClearOfBoth t w x y b
+both-yes t w x y a b f e g = record { word = λ k. g .word k; first = λ k. f .entry e; second = λ k. g .entry k }
 
 but-one : (t : List ℕ) (c y p : ℕ) → bit (getD t y 0) p ≡ false → ((c ≡ y → ⊥) → bit (getD t c 0) p ≡ false) → Dec (c < y) → Dec (y < c) → bit (getD t c 0) p ≡ false
 but-one t c y p e f (yes l) r = f (λ q. omega arith)
@@ -82,8 +89,8 @@ but-one t c y p e f (no l) (yes r) = f (λ q. omega arith)
 but-one t c y p e f (no l) (no r) = let q : c ≡ y = omega arith in rw q e
 
 pub fit-yes : (t : List ℕ) (repeats optional top p q x y w : ℕ) (s r r′ : Bool) → LiteralPrefix repeats optional top p q s → not s ≡ false → UnionWithout t x y w → ClearBit t w p y r
-    → not r ≡ false → ClearBit t w q x r′ → PairTested t repeats optional top p q x y r′
-fit-yes t repeats optional top p q x y w s r r′ g ns o cp nr cq = record { pair = made }
+    → not r ≡ false → ClearBit t w q x r′ → (k : Bool) → ClearOfBoth t w x y k → PairTested t repeats optional top p q x y (record { sound = r′; clear = k })
+fit-yes t repeats optional top p q x y w s r r′ g ns o cp nr cq k f = record { pair = made; clear = highest }
   where
     es : s ≡ true
     es = not-false s ns
@@ -96,6 +103,10 @@ fit-yes t repeats optional top p q x y w s r r′ g ns o cp nr cq = record { pai
 
     second : r′ ≡ true → (c : ℕ) → (c ≡ y → ⊥) → bit (getD t c 0) q ≡ false
     second k c n = but-one t c x q (cq .entry k) (λ m. o .all c m n q (cq .word k)) (decLt c x) (decLt x c)
+
+    highest : k ≡ true → (c : ℕ) → bit (getD t c 0) 63 ≡ false
+    highest e c =
+        but-one t c x 63 (f .first e) (λ n. but-one t c y 63 (f .second e) (λ m. o .all c n m 63 (f .word e)) (decLt c y) (decLt y c)) (decLt c x) (decLt x c)
 
     made : r′ ≡ true → PairSound t repeats optional top (p - 1) (q - 1) x y
     made e =
@@ -139,11 +150,11 @@ plain-yes repeats optional top p q low hp hq hh hw el z = record {
 }
 
 -- the prefilter by a pair
-pub plan-pair : (t : List ℕ) (repeats optional top home next p q x y a b : ℕ) (r : Bool) → StartState repeats optional top home next → home ≡ 1
-    → PairTested t repeats optional top p q x y r → r ≡ true
-    → a ≡ p - 1 → b ≡ q - 1 → PrefilterSound t repeats optional top (record { kind = 4; start = home; next = next; lo = x; hi = y; a = a; b = b })
+pub plan-pair : (t : List ℕ) (repeats optional top home next p q x y a b : ℕ) (r : PairTest) → StartState repeats optional top home next → home ≡ 1
+    → PairTested t repeats optional top p q x y r → r .sound ≡ true
+    → a ≡ p - 1 → b ≡ q - 1 → PrefilterSound t repeats optional top (record { kind = 4; start = home; next = next; lo = x; hi = y; a = a; b = b; clear = r .clear })
 plan-pair t repeats optional top home next p q x y a b r h e f er ea eb =
-    record { start = λ k. h; one = λ z. absurd (omega arith); range = λ z. absurd (omega arith); pair = λ z. (e, pair) }
+    record { start = λ k. h; one = λ z. absurd (omega arith); range = λ z. absurd (omega arith); pair = λ z. (e, pair); clear = f .clear }
   where
     pair : PairSound t repeats optional top a b x y
     pair = rw (ea, eb) (f .pair er)

@@ -9,6 +9,7 @@ use lib.ListN.{getD}
 use Rattle.shift_and.specs.Bit.{bit}
 use Rattle.shift_and.specs.ForwardStep.{opening, topBit}
 use Rattle.prefilter.specs.declared.Prefilter.{Prefilter}
+use Rattle.prefilter.specs.declared.PairTest.{PairTest}
 
 -- `start` is the start state, where no end is reported, and `next` what a byte can take it to, or keep it at.
 pub record StartState (repeats optional top start next : ℕ) : Type 0 where
@@ -35,6 +36,7 @@ pub record PrefilterSound (t : List ℕ) (repeats optional top : ℕ) (p : Prefi
   pub one : p .kind ≡ 2 → AllInRange t (p .next) (p .lo) (p .lo)
   pub range : p .kind ≡ 3 → AllInRange t (p .next) (p .lo) (p .hi)
   pub pair : p .kind ≡ 4 → (p .start ≡ 1) × PairSound t repeats optional top (p .a) (p .b) (p .lo) (p .hi)
+  pub clear : p .clear ≡ true → (c : ℕ) → bit (getD t c 0) 63 ≡ false
 
 -- ---- the tests that a pair passes: what each says where it says yes
 
@@ -60,6 +62,13 @@ pub record LiteralPrefix (repeats optional top p q : ℕ) (r : Bool) : Type 0 wh
   pub free : r ≡ true → bitAnd (bitOr optional repeats) (2 ^ (q + 1) - 1) ≡ 0
   pub above : r ≡ true → q ≤ top
 
+-- neither w nor the entries of x and y have bit 63
+pub record ClearOfBoth (t : List ℕ) (w x y : ℕ) (r : Bool) : Type 0 where
+  pub word : r ≡ true → bit w 63 ≡ false
+  pub first : r ≡ true → bit (getD t x 0) 63 ≡ false
+  pub second : r ≡ true → bit (getD t y 0) 63 ≡ false
+
 -- p and q are one more than the offsets of a pair
-pub record PairTested (t : List ℕ) (repeats optional top p q x y : ℕ) (r : Bool) : Type 0 where
-  pub pair : r ≡ true → PairSound t repeats optional top (p - 1) (q - 1) x y
+pub record PairTested (t : List ℕ) (repeats optional top p q x y : ℕ) (r : PairTest) : Type 0 where
+  pub pair : r .sound ≡ true → PairSound t repeats optional top (p - 1) (q - 1) x y
+  pub clear : r .clear ≡ true → (c : ℕ) → bit (getD t c 0) 63 ≡ false

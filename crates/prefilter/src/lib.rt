@@ -4,12 +4,13 @@ ghost use mathlib.Core.Path.{_≡_};
 ghost use Prim.Native.Nat.{_-_, _<_, _≤_, _^_};
 ghost use lib.ListN.{length};
 ghost use Rattle.byte_search.specs.BlockTests.{NoneBefore, meets};
-ghost use Rattle.prefilter.specs.Soundness.{StartState, Union, UnionWithout, ClearBit, LiteralPrefix, PairTested, PrefilterSound};
+ghost use Rattle.prefilter.specs.Soundness.{StartState, Union, UnionWithout, ClearBit, ClearOfBoth, LiteralPrefix, PairTested, PrefilterSound};
 use byte_search::byte_index;
 
 // Kinds of prefilter: in the state `start` nothing is skipped; or all up to the next byte whose entry
 // meets `next`, which may be the byte lo, or a byte from lo to hi; or all up to the next start that has
-// the byte lo at the offset a and hi at b.
+// the byte lo at the offset a and hi at b. `clear`: no entry has the highest bit, as far as that was
+// seen on the way.
 pub const NO_SKIP: u64 = 0;
 
 pub const BY_TABLE: u64 = 1;
@@ -28,6 +29,7 @@ pub struct Prefilter {
     pub hi: u8,
     pub a: usize,
     pub b: usize,
+    pub clear: bool,
 }
 
 // From how many bytes on a prefilter pays for its choice (some 75 ns).
@@ -50,6 +52,7 @@ pub fn choose(table: &[u64], repeats: u64, optional: u64, top: u64, len: usize) 
             hi: 0,
             a: 0,
             b: 0,
+            clear: false,
         };
     }
     if shift_and::accepts(start, top) {
@@ -61,9 +64,24 @@ pub fn choose(table: &[u64], repeats: u64, optional: u64, top: u64, len: usize) 
             hi: 0,
             a: 0,
             b: 0,
+            clear: false,
         };
     }
     choose_pair(table, repeats, optional, top, start, next)
+}
+
+// No prefilter, where nothing is asked of one.
+pub fn no_prefilter() -> Prefilter {
+    Prefilter {
+        kind: NO_SKIP,
+        start: 0,
+        next: 0,
+        lo: 0,
+        hi: 0,
+        a: 0,
+        b: 0,
+        clear: false,
+    }
 }
 
 // A prefilter by the bytes that leave the start state.
@@ -90,6 +108,7 @@ fn choose_by_byte(
             hi: 0,
             a: 0,
             b: 0,
+            clear: false,
         };
     }
     if !all_in_table(table, next, lo, past) {
@@ -101,6 +120,7 @@ fn choose_by_byte(
             hi: 0,
             a: 0,
             b: 0,
+            clear: false,
         };
     }
     let first = lo as u8;
@@ -114,6 +134,7 @@ fn choose_by_byte(
             hi: first,
             a: 0,
             b: 0,
+            clear: false,
         };
     }
     Prefilter {
@@ -124,6 +145,7 @@ fn choose_by_byte(
         hi: last,
         a: 0,
         b: 0,
+        clear: false,
     }
 }
 
@@ -194,12 +216,14 @@ fn choose_pair(
     if u64::count_ones(free) < 2 {
         return choose_by_byte(table, repeats, optional, top, start, next);
     }
-    let f = rarest_byte(table, free, 0);
+    let rare =
+        b"`~^|@#$%&*=+{}[]\\<>_?!;\"'()/QZXKJVWYUGFHBPMLDNRTOIACES:-qzxjkv7896534102\x80\x81\x82\x83\x84\x85\x86\x87\x88\x89\x8a\x8b\x8c\x8d\x8e\x8f\x90\x91\x92\x93\x94\x95\x96\x97\x98\x99\x9a\x9b\x9c\x9d\x9e\x9f\xa0\xa1\xa2\xa3\xa4\xa5\xa6\xa7\xa8\xa9\xaa\xab\xac\xad\xae\xaf\xb0\xb1\xb2\xb3\xb4\xb5\xb6\xb7\xb8\xb9\xba\xbb\xbc\xbd\xbe\xbf\xc0\xc1\xc2\xc3\xc4\xc5\xc6\xc7\xc8\xc9\xca\xcb\xcc\xcd\xce\xcf\xd0\xd1\xd2\xd3\xd4\xd5\xd6\xd7\xd8\xd9\xda\xdb\xdc\xdd\xde\xdf\xe0\xe1\xe2\xe3\xe4\xe5\xe6\xe7\xe8\xe9\xea\xeb\xec\xed\xee\xef\xf0\xf1\xf2\xf3\xf4\xf5\xf6\xf7\xf8\xf9\xfa\xfb\xfc\xfd\xfe\xff\x00\x01\x02\x03\x04\x05\x06\x07\x08\x0b\x0c\x0e\x0f\x10\x11\x12\x13\x14\x15\x16\x17\x18\x19\x1a\x1b\x1c\x1d\x1e\x1f\x7fwyfgbpmucdlhrsnio,.ate\t\r\n ";
+    let f = rarest_byte(table, free, 0, &rare);
     let p = f.bit;
     if 62 < p {
         return choose_by_byte(table, repeats, optional, top, start, next);
     }
-    let g = rarest_byte(table, free & !power(p), f.rank);
+    let g = rarest_byte(table, free & !power(p), f.rank, &rare);
     pair_if_sound(
         table,
         repeats,
@@ -248,15 +272,38 @@ fn unique_bits(table: &[u64], free: u64, c: u8) -> u64
     e & !(table[before] | table[after] | table[other])
 }
 
-// The rarest byte in common text, from a rank on, that seems to stand alone at a position of `free`, and
-// the lowest such; bit 64 if there is none. Only a choice: it promises nothing.
-fn rarest_byte(table: &[u64], free: u64, rank: usize) -> Choice
+// The bits of four entries.
+fn four_entries(table: &[u64], a: u8, b: u8, c: u8, d: u8) -> u64
     requires { ⌜ length (now table) ≡ 256 ⌝ }
 {
-    let rare =
-        b"`~^|@#$%&*=+{}[]\\<>_?!;\"'()/QZXKJVWYUGFHBPMLDNRTOIACES:-qzxjkv7896534102\x80\x81\x82\x83\x84\x85\x86\x87\x88\x89\x8a\x8b\x8c\x8d\x8e\x8f\x90\x91\x92\x93\x94\x95\x96\x97\x98\x99\x9a\x9b\x9c\x9d\x9e\x9f\xa0\xa1\xa2\xa3\xa4\xa5\xa6\xa7\xa8\xa9\xaa\xab\xac\xad\xae\xaf\xb0\xb1\xb2\xb3\xb4\xb5\xb6\xb7\xb8\xb9\xba\xbb\xbc\xbd\xbe\xbf\xc0\xc1\xc2\xc3\xc4\xc5\xc6\xc7\xc8\xc9\xca\xcb\xcc\xcd\xce\xcf\xd0\xd1\xd2\xd3\xd4\xd5\xd6\xd7\xd8\xd9\xda\xdb\xdc\xdd\xde\xdf\xe0\xe1\xe2\xe3\xe4\xe5\xe6\xe7\xe8\xe9\xea\xeb\xec\xed\xee\xef\xf0\xf1\xf2\xf3\xf4\xf5\xf6\xf7\xf8\xf9\xfa\xfb\xfc\xfd\xfe\xff\x00\x01\x02\x03\x04\x05\x06\x07\x08\x0b\x0c\x0e\x0f\x10\x11\x12\x13\x14\x15\x16\x17\x18\x19\x1a\x1b\x1c\x1d\x1e\x1f\x7fwyfgbpmucdlhrsnio,.ate\t\r\n ";
+    table[byte_index(a)] | table[byte_index(b)] | table[byte_index(c)] | table[byte_index(d)]
+}
+
+// From a rank on, past fours of bytes that stand at no position of `free`. Only a choice.
+fn skip_absent(table: &[u64], free: u64, rank: usize, rare: &[u8; 256]) -> usize
+    requires { ⌜ length (now table) ≡ 256 ⌝ }
+{
     let mut r = rank;
-    while r < rare.len() {
+    while r < 253 {
+        let r1 = r + 1;
+        let r2 = r + 2;
+        let r3 = r + 3;
+        let e = four_entries(table, rare[r], rare[r1], rare[r2], rare[r3]);
+        if e & free != 0 {
+            return r;
+        }
+        r += 4;
+    }
+    r
+}
+
+// The rarest byte in common text, from a rank on, that seems to stand alone at a position of `free`, and
+// the lowest such; bit 64 if there is none. Only a choice: it promises nothing.
+fn rarest_byte(table: &[u64], free: u64, rank: usize, rare: &[u8; 256]) -> Choice
+    requires { ⌜ length (now table) ≡ 256 ⌝ }
+{
+    let mut r = skip_absent(table, free, rank, rare);
+    while r < 256 {
         let c = rare[r];
         let e = unique_bits(table, free, c);
         if e != 0 {
@@ -317,7 +364,8 @@ fn pair_ordered(
     requires { ⌜ start ≡ 1 ⌝ }
     ensures { λ r. ⌜ PrefilterSound (now (table .entry)) repeats optional top r ⌝ }
 {
-    if pair_is_sound(table, repeats, optional, top, p, q, x, y) {
+    let t = test_pair(table, repeats, optional, top, p, q, x, y);
+    if t.sound {
         return Prefilter {
             kind: BY_PAIR,
             start: start,
@@ -326,6 +374,7 @@ fn pair_ordered(
             hi: y,
             a: offset(p),
             b: offset(q),
+            clear: t.clear,
         };
     }
     choose_by_byte(table, repeats, optional, top, start, next)
@@ -341,9 +390,15 @@ fn offset(p: u32) -> usize
     (p - 1) as usize
 }
 
+// What the tests of a pair say: whether it is sound, and whether no entry has the highest bit.
+pub struct PairTest {
+    pub sound: bool,
+    pub clear: bool,
+}
+
 // Whether the bits p and q are those of two positions with one byte each, x and y, in a literal
-// prefix.
-fn pair_is_sound(
+// prefix. The union of the entries tells of the highest bit too.
+fn test_pair(
     table: &[u64],
     repeats: u64,
     optional: u64,
@@ -352,18 +407,40 @@ fn pair_is_sound(
     q: u32,
     x: u8,
     y: u8,
-) -> bool
+) -> PairTest
     requires { ⌜ length (now table) ≡ 256 ⌝ }
     ensures { λ r. ⌜ PairTested (now (table .entry)) repeats optional top p q x y r ⌝ }
 {
     if !is_literal_prefix(repeats, optional, top, p, q) {
-        return false;
+        return PairTest {
+            sound: false,
+            clear: false,
+        };
     }
     let rest = union_without(table, x, y);
     if !is_clear(table, rest, p, y) {
-        return false;
+        return PairTest {
+            sound: false,
+            clear: false,
+        };
     }
-    is_clear(table, rest, q, x)
+    let sound = is_clear(table, rest, q, x);
+    let clear = is_clear_of_both(table, rest, x, y);
+    PairTest {
+        sound: sound,
+        clear: clear,
+    }
+}
+
+// Whether neither `rest` nor the entries of x and y have the highest bit.
+fn is_clear_of_both(table: &[u64], rest: u64, x: u8, y: u8) -> bool
+    requires { ⌜ length (now table) ≡ 256 ⌝ }
+    ensures { λ r. ⌜ ClearOfBoth (now (table .entry)) rest x y r ⌝ }
+{
+    if is_clear(table, rest, 63, x) {
+        return is_clear(table, rest, 63, y);
+    }
+    false
 }
 
 // The bits of the entries from lo up to hi.

@@ -1,51 +1,88 @@
--- The masks of one element's positions: the laws of `low_ones`, `optional_bits`, `repeat_bits`, `add_element`. On plain values. Assumes nothing.
+-- The masks of one element's positions: the laws of `optional_count`, `repeat_count`, `add_element`. On plain values. Assumes nothing.
 use mathlib.Core.Path.{_≡_, refl, sym, ap, ap₂, _∙_}
 use mathlib.Core.Bool.{Bool, true, false}
-use Prim.Native.Nat.{ℕ, zero, suc, _+_, _-_, _*_, _%_, _^_, _≤_, _<_}
+use Prim.Native.Nat.{ℕ, zero, suc, _+_, _-_, _*_, _^_, _≤_}
 use native.Mathlib.Omega.{arith}
-use native.Mathlib.Nat.{add-zero, one-mul, zero-mul}
+use native.Mathlib.Nat.{add-zero, zero-mul}
 use lib.ListN.{length, replicate, length-append, length-replicate}
-use lib.Dec.{lit<}
-use lib.Pow.{pow-pos, shl-exact}
+use lib.Pow.{pow-pos}
 use Rattle.model.specs.Occurrence.{Position, oneIf}
 use Rattle.model.specs.RuleText as Model
-use Rattle.model.specs.RuleText.{positionLimit, byte, any, class, gap, once, optional, repeatable, both, position, positions, kindPositions}
+use Rattle.model.specs.RuleText.{byte, any, class, gap, once, optional, repeatable, both, position, positions, kindPositions}
 use Rattle.rule_element.specs.declared.Kind.{Kind}
 use Rattle.rule_element.specs.declared.Kind.the-variants.{Byte, Any, Class, Gap}
 use Rattle.rule_element.specs.declared.Often.{Often}
+use Rattle.rule_element.specs.declared.Often.the-variants.{Once, Optional, Repeatable, Both}
 use Rattle.rule_element.specs.declared.Element.{Element}
 use Rattle.rule_parser.specs.declared.RuleMasks.{RuleMasks}
 use Rattle.rule_element.specs.Reading.{kindOf, oftenOf, sizeOf, KindFits}
 use Rattle.shift_and.specs.Masks.{maskFrom}
 use Rattle.shift_and.proofs.MaskLaws.{mask-append}
-use Rattle.rule_parser.specs.Gathering.{isOptional, isRepeating, optionalBit, optionalBits, repeatBit, repeatBits, placedOn, gainedBy}
+use Rattle.shift_and_wide.specs.declared.Wide.{Wide}
+use Rattle.shift_and_wide.specs.Wides.{laidOn}
+use Rattle.rule_parser.specs.Gathering.{isOptional, isRepeating, optionalOnes, optionalCount, repeatOnes, repeatCount, CountIs, gainedBy}
 
--- ---- `low_ones`
+-- ---- `optional_count`, `repeat_count`
 
-pub one-shifted : (n : ℕ) → n ≤ positionLimit → 1 * 2 ^ n % 2 ^ 64 ≡ 2 ^ n
-one-shifted n h = shl-exact 1 n 64 (lit< tt) (omega arith) ∙ one-mul _
+optional-few : (o : Often) → optionalOnes o ≤ 1
+optional-few Once = omega arith
+optional-few Optional = omega arith
+optional-few Repeatable = omega arith
+optional-few Both = omega arith
 
-pub some-shifted : (n : ℕ) → n ≤ positionLimit → 1 ≤ 1 * 2 ^ n % 2 ^ 64
-some-shifted n h = rw (one-shifted n h) (pow-pos n)
-
-pub ones-are : (n : ℕ) → n ≤ positionLimit → 1 * 2 ^ n % 2 ^ 64 - 1 ≡ 2 ^ n - 1
-ones-are n h = ap (λ (x : ℕ). x - 1) (one-shifted n h)
-
--- ---- `optional_bits`
+repeat-few : (o : Often) → repeatOnes o ≤ 1
+repeat-few Once = omega arith
+repeat-few Optional = omega arith
+repeat-few Repeatable = omega arith
+repeat-few Both = omega arith
 
 module _ (k : Kind) (o : Often) where
-  module _ (r : ℕ) (e : r ≡ optionalBit o) where
-    pub optional-byte : (b : ℕ) → k ≡ Byte b → r ≡ optionalBits k o
-    optional-byte b q = rw q e
+  module _ (r : ℕ) (e : r ≡ optionalOnes o) where
+    few-optional : r ≤ 1
+    few-optional = rw e (optional-few o)
 
-    pub optional-any : k ≡ Any → r ≡ optionalBits k o
-    optional-any q = rw q e
+    pub optional-byte : (b : ℕ) → k ≡ Byte b → CountIs k (optionalCount k o) r
+    optional-byte b q = rw q (record { is = e; few = few-optional })
 
-    pub optional-class : (n : ℕ) → k ≡ Class n → r ≡ optionalBits k o
-    optional-class n q = rw q e
+    pub optional-any : k ≡ Any → CountIs k (optionalCount k o) r
+    optional-any q = rw q (record { is = e; few = few-optional })
 
-  pub optional-gap : (a b : ℕ) → k ≡ Gap a b → (r : ℕ) → r ≡ 2 ^ (b - a) - 1 → r ≡ optionalBits k o
-  optional-gap a b q r e = rw q e
+    pub optional-class : (n : ℕ) → k ≡ Class n → CountIs k (optionalCount k o) r
+    optional-class n q = rw q (record { is = e; few = few-optional })
+
+  pub gap-order : (a b : ℕ) → k ≡ Gap a b → KindFits k → a ≤ b
+  gap-order a b q h = let f : KindFits (Gap a b) = rw q at h in f .0
+
+  pub optional-gap : (a b : ℕ) → k ≡ Gap a b → CountIs k (optionalCount k o) (b - a)
+  optional-gap a b q = rw q (record { is = refl; few = omega arith })
+
+  module _ (r : ℕ) (e : r ≡ repeatOnes o) where
+    few-repeat : r ≤ 1
+    few-repeat = rw e (repeat-few o)
+
+    pub repeat-byte : (b : ℕ) → k ≡ Byte b → CountIs k (repeatCount k o) r
+    repeat-byte b q = rw q (record { is = e; few = few-repeat })
+
+    pub repeat-any : k ≡ Any → CountIs k (repeatCount k o) r
+    repeat-any q = rw q (record { is = e; few = few-repeat })
+
+    pub repeat-class : (n : ℕ) → k ≡ Class n → CountIs k (repeatCount k o) r
+    repeat-class n q = rw q (record { is = e; few = few-repeat })
+
+  pub repeat-gap : (a b : ℕ) → k ≡ Gap a b → CountIs k (repeatCount k o) 0
+  repeat-gap a b q = rw q (record { is = refl; few = omega arith })
+
+pub optional-within : (k : Kind) (o : Often) → optionalCount k o ≤ sizeOf k
+optional-within (Byte b) o = optional-few o
+optional-within Any o = optional-few o
+optional-within (Class n) o = optional-few o
+optional-within (Gap a b) o = omega arith
+
+pub repeat-within : (k : Kind) (o : Often) → repeatCount k o ≤ sizeOf k
+repeat-within (Byte b) o = repeat-few o
+repeat-within Any o = repeat-few o
+repeat-within (Class n) o = repeat-few o
+repeat-within (Gap a b) o = omega arith
 
 -- ---- masks of equal positions
 
@@ -71,19 +108,19 @@ kind-length fold used (gap a b) o h =
     let l = h .0 in
     omega (arith, length-append (replicate (b - a) p) (replicate a q), length-replicate (b - a) p, length-replicate a q)
 
-one-optional : (o : Model.Often) → optionalBit (oftenOf o) ≡ 0 * 2 + oneIf (Model.mayMiss o)
+one-optional : (o : Model.Often) → 2 ^ optionalOnes (oftenOf o) - 1 ≡ 0 * 2 + oneIf (Model.mayMiss o)
 one-optional once = refl
 one-optional optional = refl
 one-optional repeatable = refl
 one-optional both = refl
 
-one-repeat : (o : Model.Often) → repeatBit (oftenOf o) ≡ 0 * 2 + oneIf (Model.mayRepeat o)
+one-repeat : (o : Model.Often) → 2 ^ repeatOnes (oftenOf o) - 1 ≡ 0 * 2 + oneIf (Model.mayRepeat o)
 one-repeat once = refl
 one-repeat optional = refl
 one-repeat repeatable = refl
 one-repeat both = refl
 
-pub optional-mask : (fold : Bool) (used : ℕ) (d : Model.Kind) (o : Model.Often) → optionalBits (kindOf used d) (oftenOf o) ≡ maskFrom isOptional (kindPositions fold d o)
+pub optional-mask : (fold : Bool) (used : ℕ) (d : Model.Kind) (o : Model.Often) → 2 ^ optionalCount (kindOf used d) (oftenOf o) - 1 ≡ maskFrom isOptional (kindPositions fold d o)
 unfolding maskFrom
 optional-mask fold used (byte b) o = one-optional o
 optional-mask fold used any o = one-optional o
@@ -96,7 +133,7 @@ optional-mask fold used (gap a b) o =
     ∙ ap₂ (λ (x y : ℕ). x + y * 2 ^ length (replicate (b - a) p)) (mask-all isOptional p refl (b - a)) (mask-no isOptional q refl a)
     ∙ (let z : 2 ^ (b - a) - 1 + 0 * 2 ^ length (replicate (b - a) p) ≡ 2 ^ (b - a) - 1 = rw zero-mul (add-zero _) in z))
 
-pub repeat-mask : (fold : Bool) (used : ℕ) (d : Model.Kind) (o : Model.Often) → repeatBits (kindOf used d) (oftenOf o) ≡ maskFrom isRepeating (kindPositions fold d o)
+pub repeat-mask : (fold : Bool) (used : ℕ) (d : Model.Kind) (o : Model.Often) → 2 ^ repeatCount (kindOf used d) (oftenOf o) - 1 ≡ maskFrom isRepeating (kindPositions fold d o)
 unfolding maskFrom
 repeat-mask fold used (byte b) o = one-repeat o
 repeat-mask fold used any o = one-repeat o
@@ -110,14 +147,10 @@ repeat-mask fold used (gap a b) o =
     ∙ (let z : 0 + 0 * 2 ^ length (replicate (b - a) p) ≡ 0 = rw zero-mul in z))
 
 -- ---- `add_element`
-pub gap-fits : (k : Kind) → KindFits k → sizeOf k ≤ positionLimit → (a b : ℕ) → k ≡ Gap a b → (a ≤ b) × (b ≤ positionLimit)
-gap-fits k h l a b e =
-    let f : KindFits (Gap a b) = rw e at h in
-    let m : b ≤ positionLimit = rw e at l in
-    (f .0, m)
-
-pub gained-is : (t : RuleMasks) (e : Element) (x y o r n : ℕ) → x ≡ optionalBits (e .kind) (e .often) → o ≡ placedOn (t .optional) x (t .positions) → y ≡ repeatBits (e .kind) (e .often) → r ≡ placedOn (t .repeats) y (t .positions)
-    → n ≡ sizeOf (e .kind) → _≡_ {A = RuleMasks} (record { positions = t .positions + n; optional = o; repeats = r }) (gainedBy t e)
-gained-is t e x y o r n ex eo ey er en =
-    ap₂ (λ (a b : ℕ). record { positions = t .positions + a; optional = b; repeats = r }) en (eo ∙ ap (λ (z : ℕ). placedOn (t .optional) z (t .positions)) ex)
-    ∙ ap (λ (b : ℕ). record { positions = t .positions + sizeOf (e .kind); optional = placedOn (t .optional) (optionalBits (e .kind) (e .often)) (t .positions); repeats = b }) (er ∙ ap (λ (z : ℕ). placedOn (t .repeats) z (t .positions)) ey)
+pub gained-is : (t : RuleMasks) (e : Element) (x y n : ℕ) (o r : Wide) → CountIs (e .kind) (optionalCount (e .kind) (e .often)) x → CountIs (e .kind) (repeatCount (e .kind) (e .often)) y → n ≡ sizeOf (e .kind)
+    → o ≡ laidOn (t .optional) x (t .positions + 1) → r ≡ laidOn (t .repeats) y (t .positions + 1) → _≡_ {A = RuleMasks} (record { positions = t .positions + n; optional = o; repeats = r }) (gainedBy t e)
+gained-is t e x y n o r ex ey en eo er = go (eo ∙ ap (λ (z : ℕ). laidOn (t .optional) z (t .positions + 1)) (ex .is)) (er ∙ ap (λ (z : ℕ). laidOn (t .repeats) z (t .positions + 1)) (ey .is))
+  where
+    go : o ≡ laidOn (t .optional) (optionalCount (e .kind) (e .often)) (t .positions + 1) → r ≡ laidOn (t .repeats) (repeatCount (e .kind) (e .often)) (t .positions + 1)
+        → _≡_ {A = RuleMasks} (record { positions = t .positions + n; optional = o; repeats = r }) (gainedBy t e)
+    go fo fr = rw (fo, fr, en)

@@ -1,12 +1,13 @@
--- The laws of `folds`, `position_mask` and `prepare`. On plain values. Assumes nothing.
+-- The laws of `folds`, `required`, `refusal` and `prepare`. On plain values. Assumes nothing.
 use mathlib.Core.Path.{_≡_, refl, sym, ap, ap₂, _∙_}
 use mathlib.Core.List.{List, [], _∷_}
 use mathlib.Core.Bool.{Bool, true, false}
-use Prim.Native.Nat.{ℕ, suc, _+_, _-_, _*_, _%_, _^_, _≤_, _<_}
+use Prim.Native.Nat.{ℕ, suc, _+_, _-_, _*_, _^_, _≤_, _<_}
 use native.Mathlib.Omega.{arith}
 use native.Mathlib.Nat.{zero-add}
 use lib.ListN.{length}
-use lib.Pow.{pow-mono, pow-pos}
+use lib.Bits.{bitOr, or-zero-l}
+use lib.Pow.{pow-pos}
 use borrow.Author.Tests.{eq-eqb, ne-eqb, lt-ltb, le-ltb}
 use Rattle.model.specs.Occurrence.{Position, shortest}
 use Rattle.model.specs.RefusalNumbers.{ruleEmpty, ruleLong, admitsEmpty}
@@ -16,15 +17,19 @@ use Rattle.model.specs.NumberedAnswers.{Parsed, accepted, elementsFrom, orEmpty
 use Rattle.shift_and.specs.ForwardStep as Step
 use Rattle.shift_and.specs.Masks.{maskFrom, optionalMask, repeatsMask}
 use Rattle.shift_and.proofs.Bridge.{shortest-is}
+use Rattle.shift_and.proofs.MaskLaws.{mask-fits}
+use Rattle.shift_and_wide.specs.declared.Wide.{Wide}
+use Rattle.shift_and_wide.specs.Wides.{number, wordsOf, noBits, onesFrom, laidOn}
+use Rattle.shift_and_wide.proofs.Masks.{number-words, number-laid, number-none, none-fits}
 use Rattle.rule_parser.specs.declared.RuleMasks.{RuleMasks}
 use Rattle.rule_parser.specs.declared.Outcome.{Outcome}
 use Rattle.rule_parser.specs.declared.Outcome.the-variants.{Accepted, Refused}
 use Rattle.rule_parser.specs.declared.Prepared.{Prepared}
-use Rattle.rule_parser.specs.Gathering.{isOptional, isRepeating, start, gather, ReadsRule}
+use Rattle.rule_parser.specs.Gathering.{isOptional, isRepeating, start, requiredOf, gather, ReadsRule}
 use Rattle.rule_parser.specs.Preparing.{refusalOf, preparedBy, prepared, Prepares}
 use Rattle.rule_parser.proofs.RuleLaws.{elements-accepted, elements-refused}
 
--- ---- `folds`, `position_mask`
+-- ---- `folds`, `required`, `refusal`
 
 pub folds-not : (flag : ℕ) → flag ≡ 0 → false ≡ foldFlag flag
 folds-not flag e = rw e
@@ -32,17 +37,21 @@ folds-not flag e = rw e
 pub folds-so : (flag : ℕ) → (flag ≡ 0 → ⊥) → true ≡ foldFlag flag
 folds-so flag n = rw (ne-eqb _ _ n)
 
-pub all-positions : (n r : ℕ) → n ≤ positionLimit → r ≡ 2 ^ n - 1 → r * 2 % 2 ^ 64 ≡ (2 ^ n - 1) * 2
-all-positions n r h e =
-    let l = pow-mono {i = n} {j = positionLimit} h in
-    let p = pow-pos n in
-    rw e (let z : (2 ^ n - 1) * 2 % 2 ^ 64 ≡ (2 ^ n - 1) * 2 = omega arith in z)
+pub required-is : (t : RuleMasks) (none all : Wide) (m : ℕ) → t .positions ≤ positionLimit → none ≡ noBits → all ≡ laidOn none (t .positions) 1 → m ≡ Step.shortest 256 (number all) (number (t .optional)) → m ≡ requiredOf t
+required-is t none all m l en ea em = em ∙ ap (λ (x : ℕ). Step.shortest 256 x (number (t .optional))) (ap number (ea ∙ ap (λ (x : Wide). laidOn x (t .positions) 1) en) ∙ number-laid noBits (t .positions) 1 none-fits (omega arith) ∙ ap (λ (x : ℕ). bitOr x (onesFrom (t .positions) 1)) number-none ∙ or-zero-l _)
 
 -- the mask of all positions
 all-mask : (ps : List Position) → maskFrom (λ p. true) ps ≡ 2 ^ length ps - 1
 unfolding maskFrom
 all-mask [] = refl
 all-mask (p ∷ ps) = let e = all-mask ps in let l = pow-pos (length ps) in let g : maskFrom (λ p. true) ps * 2 + 1 ≡ 2 ^ suc (length ps) - 1 = omega arith in g
+
+pub refusal-is : (n p : ℕ) (x : Wide) → x ≡ noBits → _≡_ {A = Prepared} (record { number = n; place = p; positions = 0; shortest = 0; optional = x; repeats = x }) (refusalOf n p)
+refusal-is n p x e = rw e
+
+same-answer : {n n′ m m′ : ℕ} {x x′ y y′ : Wide} → n ≡ n′ → m ≡ m′ → x ≡ x′ → y ≡ y′
+    → _≡_ {A = Prepared} (record { number = 0; place = 0; positions = n; shortest = m; optional = x; repeats = y }) (record { number = 0; place = 0; positions = n′; shortest = m′; optional = x′; repeats = y′ })
+same-answer a b c d = rw (a, b, c, d)
 
 -- ---- the returns
 
@@ -71,7 +80,7 @@ module _ (flag : ℕ) (s : List ℕ) (r : Prepared) where
         pub few-positions : t .positions ≤ positionLimit
         few-positions = rw e at (rx .few)
 
-        module _ (p : ℕ) (ep : p ≡ (2 ^ t .positions - 1) * 2) (m : ℕ) (em : m ≡ Step.shortest 64 p (t .optional)) where
+        module _ (m : ℕ) (em : m ≡ requiredOf t) where
           got : (es : List Model.Element) × (elementsFrom positionLimit f 0 0 0 s ≡ accepted es) × (Accepted t ≡ gather f start (accepted es))
           got = elements-accepted f s x rx t e
 
@@ -79,24 +88,31 @@ module _ (flag : ℕ) (s : List ℕ) (r : Prepared) where
           unfolding got
           ps = positions f (got .0)
 
-          is-masks : t ≡ record { positions = 0 + length ps; optional = 0 + maskFrom isOptional ps * 2 ^ (0 + 1); repeats = 0 + maskFrom isRepeating ps * 2 ^ (0 + 1) }
+          is-masks : t ≡ record { positions = 0 + length ps; optional = wordsOf (number noBits + maskFrom isOptional ps * 2 ^ (0 + 1)); repeats = wordsOf (number noBits + maskFrom isRepeating ps * 2 ^ (0 + 1)) }
           unfolding got ps
           is-masks = let z = got .2 in cc
 
           is-positions : t .positions ≡ length ps
           is-positions = ap (λ (y : RuleMasks). y .positions) is-masks ∙ zero-add _
 
-          is-optional : t .optional ≡ optionalMask ps
-          is-optional = ap (λ (y : RuleMasks). y .optional) is-masks ∙ (let z : 0 + maskFrom isOptional ps * 2 ^ (0 + 1) ≡ maskFrom isOptional ps * 2 = omega arith in z)
+          few : length ps < 256
+          few = omega (arith, few-positions, is-positions)
 
-          is-repeats : t .repeats ≡ repeatsMask ps
-          is-repeats = ap (λ (y : RuleMasks). y .repeats) is-masks ∙ (let z : 0 + maskFrom isRepeating ps * 2 ^ (0 + 1) ≡ maskFrom isRepeating ps * 2 = omega arith in z)
+          above-none : (x : ℕ) → wordsOf (number noBits + x * 2 ^ (0 + 1)) ≡ wordsOf (x * 2)
+          above-none x = ap (λ (y : ℕ). wordsOf (y + x * 2 ^ (0 + 1))) number-none ∙ ap wordsOf (let z : 0 + x * 2 ^ (0 + 1) ≡ x * 2 = omega arith in z)
+
+          is-optional : t .optional ≡ wordsOf (optionalMask ps)
+          is-optional = ap (λ (y : RuleMasks). y .optional) is-masks ∙ above-none (maskFrom isOptional ps)
+
+          is-repeats : t .repeats ≡ wordsOf (repeatsMask ps)
+          is-repeats = ap (λ (y : RuleMasks). y .repeats) is-masks ∙ above-none (maskFrom isRepeating ps)
 
           is-shortest : m ≡ shortest ps
           is-shortest =
               em
-              ∙ ap₂ (λ (x y : ℕ). Step.shortest 64 x y) (ep ∙ ap (λ (x : ℕ). (2 ^ x - 1) * 2) is-positions ∙ ap (λ (x : ℕ). x * 2) (sym (all-mask ps))) is-optional
-              ∙ shortest-is 64 ps (omega (arith, few-positions, is-positions))
+              ∙ ap₂ (λ (x y : ℕ). Step.shortest 256 x y) (ap (λ (x : ℕ). (2 ^ x - 1) * 2) is-positions ∙ ap (λ (x : ℕ). x * 2) (sym (all-mask ps)))
+              (ap number is-optional ∙ number-words (optionalMask ps) (mask-fits 256 isOptional ps few))
+              ∙ shortest-is 256 ps few
 
           by-positions : prepared flag s ≡ preparedBy f (orEmpty f s (accepted (got .0)))
           by-positions = by-elements ∙ ap (λ (y : Parsed). preparedBy f (orEmpty f s y)) (got .1)
@@ -109,8 +125,5 @@ module _ (flag : ℕ) (s : List ℕ) (r : Prepared) where
           unfolding ps
           prepare-good k = record {
             few = few-positions;
-            is =
-                ap₂ (λ (a b : ℕ). record { number = 0; place = 0; positions = a; shortest = b; optional = t .optional; repeats = t .repeats }) is-positions is-shortest
-                ∙ ap₂ (λ (a b : ℕ). record { number = 0; place = 0; positions = length ps; shortest = shortest ps; optional = a; repeats = b }) is-optional is-repeats
-                ∙ sym (by-positions ∙ rw (ne-eqb _ _ (λ z. k (is-shortest ∙ z))));
+            is = same-answer is-positions is-shortest is-optional is-repeats ∙ sym (by-positions ∙ rw (ne-eqb _ _ (λ z. k (is-shortest ∙ z))));
           }

@@ -2,14 +2,14 @@
 use mathlib.Core.Path.{_≡_, refl, sym, ap, ap₂, _∙_}
 use mathlib.Core.List.{List, [], _∷_, _++_}
 use mathlib.Core.Bool.{Bool, true, false}
-use Prim.Native.Nat.{ℕ, zero, suc, pred, _+_, _*_, _^_, _≤_, _<_}
+use Prim.Native.Nat.{ℕ, zero, suc, pred, _+_, _-_, _*_, _^_, _≤_, _<_}
 use native.Mathlib.Omega.{arith}
 use native.Mathlib.Nat.{add-zero, add-suc, suc-add, mul-assoc, add-mul, zero-mul}
 use lib.ListN.{length, getD, drop, length-append, drop-of-length-le}
 use lib.Seq.{drop-cons, drop-drop}
 use lib.Dec.{leb}
-use lib.Bits.{or-lt, or-shifted-r}
-use lib.Pow.{pow-add, pow-mono, shl-lt, shl-exact}
+use lib.Bits.{bitOr, or-lt, or-shifted-r}
+use lib.Pow.{pow-add, pow-mono, pow-pos, shl-lt}
 use Rattle.model.specs.RefusalNumbers.{tooManyPositions}
 use Rattle.model.specs.Occurrence.{Position}
 use Rattle.model.specs.RuleText as Model
@@ -18,8 +18,10 @@ use Rattle.model.specs.NumberedAnswers.{Parsed, refused, accepted, addElement, 
 use Rattle.model.proofs.Accepted.{elements-bad, elements-over, elements-good}
 use Rattle.shift_and.specs.Masks.{maskFrom}
 use Rattle.shift_and.proofs.MaskLaws.{mask-small, mask-append}
-use Rattle.rule_element.specs.declared.Kind.{Kind}
-use Rattle.rule_element.specs.declared.Kind.the-variants.{Byte, Any, Class, Gap}
+use Rattle.shift_and_wide.specs.declared.Wide.{Wide}
+use Rattle.shift_and_wide.specs.ManyWords.{Words}
+use Rattle.shift_and_wide.specs.Wides.{words, number, wordsOf, noBits, laidOn}
+use Rattle.shift_and_wide.proofs.Masks.{words-number, number-laid, laid-fits, number-none, none-fits}
 use Rattle.rule_element.specs.declared.Element.{Element}
 use Rattle.rule_element.specs.declared.ElementAnswer.the-variants.{Got, Refused as Refuses}
 use Rattle.rule_element.specs.declared.ElementResult.{ElementResult}
@@ -28,8 +30,8 @@ use Rattle.rule_element.proofs.Elements.{size-same, bytes-same}
 use Rattle.rule_parser.specs.declared.RuleMasks.{RuleMasks}
 use Rattle.rule_parser.specs.declared.Outcome.{Outcome}
 use Rattle.rule_parser.specs.declared.Outcome.the-variants.{Accepted, Refused}
-use Rattle.rule_parser.specs.Gathering.{isOptional, isRepeating, optionalBits, repeatBits, placedOn, Fits, gainedBy, start, gather, ReadsRule}
-use Rattle.rule_parser.proofs.ElementMasks.{kind-length, optional-mask, repeat-mask}
+use Rattle.rule_parser.specs.Gathering.{isOptional, isRepeating, optionalCount, repeatCount, Fits, gainedBy, start, gather, ReadsRule}
+use Rattle.rule_parser.proofs.ElementMasks.{kind-length, optional-mask, repeat-mask, optional-within, repeat-within}
 
 -- ---- the model's reading, element by element
 
@@ -120,93 +122,112 @@ module _ (fold : Bool) (used : ℕ) (s : List ℕ) (at : ℕ) where
 
 -- ---- what was taken, and the element after it
 
-pub placed-is : (mask bits used n : ℕ) → mask < 2 ^ (used + 1) → bits < 2 ^ n → used + n ≤ positionLimit → placedOn mask bits used ≡ bits * 2 ^ (used + 1) + mask
-placed-is mask bits used n h l r = rw (shl-exact n (used + 1) 64 l (omega arith)) (or-shifted-r bits (used + 1) mask h)
+-- a mask with bits laid above `used` positions
+abbrev pub placedOn : (mask bits used : ℕ) → ℕ
+placedOn mask bits used = bitOr mask (bits * 2 ^ (used + 1))
 
-pub placed-lt : (mask bits used n : ℕ) → mask < 2 ^ (used + 1) → bits < 2 ^ n → used + n ≤ positionLimit → placedOn mask bits used < 2 ^ (used + n + 1)
-placed-lt mask bits used n h l r =
+pub placed-lt : (mask bits used n : ℕ) → mask < 2 ^ (used + 1) → bits < 2 ^ n → placedOn mask bits used < 2 ^ (used + n + 1)
+placed-lt mask bits used n h l =
     let k : n + (used + 1) ≡ used + n + 1 = omega arith in
     let a : bits * 2 ^ (used + 1) < 2 ^ (used + n + 1) = rw (← k) (shl-lt n (used + 1) l) in
     let m : 2 ^ (used + 1) ≤ 2 ^ (used + n + 1) = pow-mono {i = used + 1} {j = used + n + 1} (omega arith) in
-    rw (shl-exact n (used + 1) 64 l (omega arith)) (or-lt (used + n + 1) mask (bits * 2 ^ (used + 1)) (omega arith) a)
+    or-lt (used + n + 1) mask (bits * 2 ^ (used + 1)) (omega arith) a
 
 -- a mask of a list that an element begins, above the mask of what was before
-pub placed-mask : (mask used n x y : ℕ) → mask < 2 ^ (used + 1) → x < 2 ^ n → used + n ≤ positionLimit → mask + (x + y * 2 ^ n) * 2 ^ (used + 1) ≡ placedOn mask x used + y * 2 ^ (used + n + 1)
-placed-mask mask used n x y h l r =
+pub placed-mask : (mask used n x y : ℕ) → mask < 2 ^ (used + 1) → mask + (x + y * 2 ^ n) * 2 ^ (used + 1) ≡ placedOn mask x used + y * 2 ^ (used + n + 1)
+placed-mask mask used n x y h =
     let k : 2 ^ (used + n + 1) ≡ 2 ^ n * 2 ^ (used + 1) = ap (λ (j : ℕ). 2 ^ j) (let z : used + n + 1 ≡ n + (used + 1) = omega arith in z) ∙ pow-add 2 n (used + 1) in
     let a : (x + y * 2 ^ n) * 2 ^ (used + 1) ≡ x * 2 ^ (used + 1) + y * 2 ^ (used + n + 1) = rw (add-mul, k, mul-assoc) in
-    omega (arith, placed-is mask x used n h l r)
+    omega (arith, or-shifted-r x (used + 1) mask h)
+
+same-masks : {n n′ : ℕ} {x x′ y y′ : Wide} → n ≡ n′ → x ≡ x′ → y ≡ y′
+    → Accepted (record { positions = n; optional = x; repeats = y }) ≡ Accepted (record { positions = n′; optional = x′; repeats = y′ })
+same-masks a b c = rw (a, b, c)
+
+-- the words of a mask of `used` positions
+pub record MaskOf (used : ℕ) (x : Wide) : Type 0 where
+  pub words-fit : Words 64 4 (words x)
+  pub small : number x < 2 ^ (used + 1)
 
 module _ (fold : Bool) (t : RuleMasks) (d : Model.Kind) (o : Model.Often) (few : KindFits (kindOf (t .positions) d)) (room : t .positions + sizeOf (kindOf (t .positions) d) ≤ positionLimit)
-    (smallO : t .optional < 2 ^ (t .positions + 1)) (smallR : t .repeats < 2 ^ (t .positions + 1)) where
+    (heldO : MaskOf (t .positions) (t .optional)) (heldR : MaskOf (t .positions) (t .repeats)) where
   abbrev used : ℕ
   used = t .positions
 
   abbrev code : Element
   code = record { kind = kindOf used d; often = oftenOf o }
 
-  long : length (kindPositions fold d o) ≡ sizeOf (kindOf used d)
+  abbrev size : ℕ
+  size = sizeOf (kindOf used d)
+
+  long : length (kindPositions fold d o) ≡ size
   long = kind-length fold used d o few
 
-  below : (f : Position → Bool) (bits : ℕ) → bits ≡ maskFrom f (kindPositions fold d o) → bits < 2 ^ sizeOf (kindOf used d)
-  below f bits e = rw (e, ← long) (mask-small f (kindPositions fold d o))
+  -- one mask of the two: the first n of the element's positions pass the test f
+  module _ (f : Position → Bool) (n : ℕ) (x : Wide) (e : 2 ^ n - 1 ≡ maskFrom f (kindPositions fold d o)) (l : n ≤ size) (h : MaskOf used x) where
+    laid-number : number (laidOn x n (used + 1)) ≡ placedOn (number x) (2 ^ n - 1) used
+    laid-number = number-laid x n (used + 1) (h .words-fit) (omega arith)
 
-  placed-next : (f : Position → Bool) (bits mask : ℕ) → bits ≡ maskFrom f (kindPositions fold d o) → mask < 2 ^ (used + 1) → (es : List Model.Element)
-      → mask + maskFrom f (kindPositions fold d o ++ positions fold es) * 2 ^ (used + 1) ≡ placedOn mask bits used + maskFrom f (positions fold es) * 2 ^ (used + sizeOf (kindOf used d) + 1)
-  placed-next f bits mask e h es =
-      let m : maskFrom f (kindPositions fold d o ++ positions fold es) ≡ bits + maskFrom f (positions fold es) * 2 ^ sizeOf (kindOf used d) =
-      mask-append f (kindPositions fold d o) (positions fold es) ∙ ap₂ (λ (x n : ℕ). x + maskFrom f (positions fold es) * 2 ^ n) (sym e) long in
-      rw m (placed-mask mask used (sizeOf (kindOf used d)) bits (maskFrom f (positions fold es)) h (below f bits e) room)
+    laid-next : (es : List Model.Element) → wordsOf (number x + maskFrom f (kindPositions fold d o ++ positions fold es) * 2 ^ (used + 1)) ≡ wordsOf (number (laidOn x n (used + 1)) + maskFrom f (positions fold es) * 2 ^ (used + size + 1))
+    laid-next es =
+        let m : maskFrom f (kindPositions fold d o ++ positions fold es) ≡ 2 ^ n - 1 + maskFrom f (positions fold es) * 2 ^ size =
+        mask-append f (kindPositions fold d o) (positions fold es) ∙ ap₂ (λ (x n : ℕ). x + maskFrom f (positions fold es) * 2 ^ n) (sym e) long in
+        ap wordsOf
+        (ap (λ (y : ℕ). number x + y * 2 ^ (used + 1)) m ∙ placed-mask (number x) used size (2 ^ n - 1) (maskFrom f (positions fold es)) (h .small)
+        ∙ ap (λ (y : ℕ). y + maskFrom f (positions fold es) * 2 ^ (used + size + 1)) (sym laid-number))
+
+    laid-held : MaskOf (used + size) (laidOn x n (used + 1))
+    laid-held = record {
+      words-fit = laid-fits x n (used + 1);
+      small = rw laid-number (placed-lt (number x) (2 ^ n - 1) used size (h .small) (rw (e, ← long) (mask-small f (kindPositions fold d o))));
+    }
+
+  abbrev optionalN : ℕ
+  optionalN = optionalCount (kindOf used d) (oftenOf o)
+
+  abbrev repeatN : ℕ
+  repeatN = repeatCount (kindOf used d) (oftenOf o)
 
   pub gather-add : (x : Parsed) → gather fold t (addElement (record { kind = d; often = o }) x) ≡ gather fold (gainedBy t code) x
   gather-add (refused n p) = refl
   gather-add (accepted es) =
-      let a : used + length (kindPositions fold d o ++ positions fold es) ≡ used + sizeOf (kindOf used d) + length (positions fold es) =
+      let a : used + length (kindPositions fold d o ++ positions fold es) ≡ used + size + length (positions fold es) =
       omega (arith, length-append (kindPositions fold d o) (positions fold es), long) in
-      let b = placed-next isOptional (optionalBits (kindOf used d) (oftenOf o)) (t .optional) (optional-mask fold used d o) smallO es in
-      let c = placed-next isRepeating (repeatBits (kindOf used d) (oftenOf o)) (t .repeats) (repeat-mask fold used d o) smallR es in
-      ap₂ (λ (n : ℕ) (m : ℕ). Accepted (record { positions = n; optional = m; repeats = t .repeats + maskFrom isRepeating (kindPositions fold d o ++ positions fold es) * 2 ^ (used + 1) })) a b
-      ∙ ap (λ (m : ℕ). Accepted (record { positions = used + sizeOf (kindOf used d) + length (positions fold es); optional = placedOn (t .optional) (optionalBits (kindOf used d) (oftenOf o)) used + maskFrom isOptional (positions fold es) * 2 ^ (used + sizeOf (kindOf used d) + 1); repeats = m })) c
+      let b = laid-next isOptional optionalN (t .optional) (optional-mask fold used d o) (optional-within (kindOf used d) (oftenOf o)) heldO es in
+      let c = laid-next isRepeating repeatN (t .repeats) (repeat-mask fold used d o) (repeat-within (kindOf used d) (oftenOf o)) heldR es in
+      same-masks a b c
 
-  pub taken-small : (gainedBy t code .optional < 2 ^ (gainedBy t code .positions + 1)) × (gainedBy t code .repeats < 2 ^ (gainedBy t code .positions + 1))
-  taken-small = (
-    placed-lt (t .optional) (optionalBits (kindOf used d) (oftenOf o)) used (sizeOf (kindOf used d)) smallO (below isOptional _ (optional-mask fold used d o)) room,
-    placed-lt (t .repeats) (repeatBits (kindOf used d) (oftenOf o)) used (sizeOf (kindOf used d)) smallR (below isRepeating _ (repeat-mask fold used d o)) room,
+  pub taken-held : MaskOf (gainedBy t code .positions) (gainedBy t code .optional) × MaskOf (gainedBy t code .positions) (gainedBy t code .repeats)
+  taken-held = (
+    laid-held isOptional optionalN (t .optional) (optional-mask fold used d o) (optional-within (kindOf used d) (oftenOf o)) heldO,
+    laid-held isRepeating repeatN (t .repeats) (repeat-mask fold used d o) (repeat-within (kindOf used d) (oftenOf o)) heldR,
   )
 
 -- ---- the loop of `read_rule`
 
 pub record Parsing (fold : Bool) (s : List ℕ) (t : RuleMasks) (at : ℕ) : Type 0 where
   pub few : t .positions ≤ positionLimit
-  pub smallO : t .optional < 2 ^ (t .positions + 1)
-  pub smallR : t .repeats < 2 ^ (t .positions + 1)
+  pub heldO : MaskOf (t .positions) (t .optional)
+  pub heldR : MaskOf (t .positions) (t .repeats)
   pub rest : gather fold t (elementsFrom positionLimit fold 0 at (t .positions) (drop at s)) ≡ gather fold start (elementsFrom positionLimit fold 0 0 0 s)
 
-pub size-some : (k : Kind) → KindFits k → 1 ≤ sizeOf k
-size-some (Byte b) h = omega arith
-size-some Any h = omega arith
-size-some (Class n) h = omega arith
-size-some (Gap a b) h = h .1
-
 module _ (fold : Bool) (s : List ℕ) where
-  pub begun : Parsing fold s start 0
-  begun = record { few = omega arith; smallO = omega arith; smallR = omega arith; rest = refl }
+  pub begun : (x : Wide) → x ≡ noBits → Parsing fold s (record { positions = 0; optional = x; repeats = x }) 0
+  begun x e = rw e (record { few = omega arith; heldO = none; heldR = none; rest = refl })
+    where
+      none : MaskOf 0 noBits
+      none = record { words-fit = none-fits; small = rw number-none (pow-pos 1) }
 
   module _ (t : RuleMasks) (at : ℕ) (g : Parsing fold s t at) where
     pub rule-over : length s ≤ at → ReadsRule fold s (Accepted t)
     unfolding maskFrom
-    rule-over h =
-        let p : t .positions ≡ t .positions + 0 = omega arith in
-        let q : t .optional ≡ t .optional + 0 * 2 ^ (t .positions + 1) = rw zero-mul (sym (add-zero (t .optional))) in
-        let r : t .repeats ≡ t .repeats + 0 * 2 ^ (t .positions + 1) = rw zero-mul (sym (add-zero (t .repeats))) in
-        record {
-          is =
-              ap₂ (λ (n m : ℕ). Accepted (record { positions = n; optional = m; repeats = t .repeats })) p q
-              ∙ ap (λ (m : ℕ). Accepted (record { positions = t .positions + 0; optional = t .optional + 0 * 2 ^ (t .positions + 1); repeats = m })) r
-              ∙ sym (ap (gather fold t) (elements-end fold (t .positions) s at h))
-              ∙ g .rest;
-          few = g .few;
-        }
+    rule-over h = record {
+      is = same-masks (let p : t .positions ≡ t .positions + 0 = omega arith in p) (whole (t .optional) (g .heldO)) (whole (t .repeats) (g .heldR)) ∙ sym (ap (gather fold t) (elements-end fold (t .positions) s at h)) ∙ g .rest;
+      few = g .few;
+    }
+      where
+        whole : (x : Wide) → MaskOf (t .positions) x → x ≡ wordsOf (number x + 0 * 2 ^ (t .positions + 1))
+        whole x k = sym (words-number x (k .words-fit)) ∙ ap wordsOf (sym (add-zero (number x)) ∙ ap (λ (y : ℕ). number x + y) (sym (zero-mul (2 ^ (t .positions + 1)))))
 
     module _ (h : at < length s) (r : ElementResult) (rc : ReadsElement fold (t .positions) s at r) where
       pub rule-refused : (n : ℕ) → r .answer ≡ Refuses n → ReadsRule fold s (Refused n at)
@@ -214,7 +235,7 @@ module _ (fold : Bool) (s : List ℕ) where
 
       module _ (element : Element) (next : ℕ) (e : r .answer ≡ Got element next) where
         pub next-fits : Fits t element
-        next-fits = let m = moved fold (t .positions) s at h r rc element next e in record { fits = m .fits; room = m .room; some = size-some (element .kind) (m .fits) }
+        next-fits = let m = moved fold (t .positions) s at h r rc element next e in record { fits = m .fits; room = m .room }
 
         pub next-ahead : (at < next) × (next ≤ length s)
         next-ahead = let m = moved fold (t .positions) s at h r rc element next e in (omega (arith, m .ahead), m .inside)
@@ -230,16 +251,16 @@ module _ (fold : Bool) (s : List ℕ) where
             let few : KindFits (kindOf used d) = rw same at (m .fits) in
             let room : used + sizeOf (kindOf used d) ≤ positionLimit = rw same at (m .room) in
             let e′ : t′ ≡ gainedBy t (record { kind = kindOf used d; often = oftenOf o }) = e₁ ∙ ap (gainedBy t) same in
-            let small = taken-small fold t d o few room (g .smallO) (g .smallR) in
+            let held = taken-held fold t d o few room (g .heldO) (g .heldR) in
             let X = elementsFrom positionLimit fold 0 next (used + sizeOf (element .kind)) (drop next s) in
             record {
               few = rw e′ room;
-              smallO = rw e′ (small .0);
-              smallR = rw e′ (small .1);
+              heldO = rw e′ (held .0);
+              heldR = rw e′ (held .1);
               rest =
                   ap (λ (y : RuleMasks). gather fold y (elementsFrom positionLimit fold 0 next (y .positions) (drop next s))) e₁
                   ∙ ap (λ (y : Element). gather fold (gainedBy t y) X) same
-                  ∙ sym (gather-add fold t d o few room (g .smallO) (g .smallR) X)
+                  ∙ sym (gather-add fold t d o few room (g .heldO) (g .heldR) X)
                   ∙ sym (ap (gather fold t) (got .turn))
                   ∙ g .rest;
             }

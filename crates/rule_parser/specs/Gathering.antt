@@ -2,13 +2,14 @@
 use mathlib.Core.Path.{_≡_}
 use mathlib.Core.Bool.{Bool}
 use mathlib.Core.List.{List}
-use Prim.Native.Nat.{ℕ, _+_, _-_, _*_, _%_, _^_, _≤_}
+use Prim.Native.Nat.{ℕ, _+_, _-_, _*_, _^_, _≤_}
 use lib.ListN.{length}
-use lib.Bits.{bitOr}
 use Rattle.model.specs.Occurrence.{Position}
 use Rattle.model.specs.RuleText.{positionLimit, positions}
 use Rattle.model.specs.NumberedAnswers.{Parsed, refused, accepted, elementsFrom}
+use Rattle.shift_and.specs.ForwardStep as Step
 use Rattle.shift_and.specs.Masks.{maskFrom}
+use Rattle.shift_and_wide.specs.Wides.{number, wordsOf, noBits, onesFrom, laidOn}
 use Rattle.rule_element.specs.declared.Kind.{Kind}
 use Rattle.rule_element.specs.declared.Kind.the-variants.{Byte, Any, Class, Gap}
 use Rattle.rule_element.specs.declared.Often.{Often}
@@ -25,35 +26,36 @@ isOptional p = p .optional
 abbrev pub isRepeating : Position → Bool
 isRepeating p = p .repeats
 
--- ---- an element's own positions, its first at bit 0
+-- ---- an element's own positions: the first so many are optional, or repeat
 
-abbrev pub optionalBit : Often → ℕ
-optionalBit Once = 0
-optionalBit Optional = 1
-optionalBit Repeatable = 0
-optionalBit Both = 1
+abbrev pub optionalOnes : Often → ℕ
+optionalOnes Once = 0
+optionalOnes Optional = 1
+optionalOnes Repeatable = 0
+optionalOnes Both = 1
 
-abbrev pub optionalBits : Kind → Often → ℕ
-optionalBits (Byte b) o = optionalBit o
-optionalBits Any o = optionalBit o
-optionalBits (Class n) o = optionalBit o
-optionalBits (Gap a b) o = 2 ^ (b - a) - 1
+abbrev pub optionalCount : Kind → Often → ℕ
+optionalCount (Byte b) o = optionalOnes o
+optionalCount Any o = optionalOnes o
+optionalCount (Class n) o = optionalOnes o
+optionalCount (Gap a b) o = b - a
 
-abbrev pub repeatBit : Often → ℕ
-repeatBit Once = 0
-repeatBit Optional = 0
-repeatBit Repeatable = 1
-repeatBit Both = 1
+abbrev pub repeatOnes : Often → ℕ
+repeatOnes Once = 0
+repeatOnes Optional = 0
+repeatOnes Repeatable = 1
+repeatOnes Both = 1
 
-abbrev pub repeatBits : Kind → Often → ℕ
-repeatBits (Byte b) o = repeatBit o
-repeatBits Any o = repeatBit o
-repeatBits (Class n) o = repeatBit o
-repeatBits (Gap a b) o = 0
+abbrev pub repeatCount : Kind → Often → ℕ
+repeatCount (Byte b) o = repeatOnes o
+repeatCount Any o = repeatOnes o
+repeatCount (Class n) o = repeatOnes o
+repeatCount (Gap a b) o = 0
 
--- the mask with bits laid above `used` positions
-abbrev pub placedOn : (mask bits used : ℕ) → ℕ
-placedOn mask bits used = bitOr mask (bits * 2 ^ (used + 1) % 2 ^ 64)
+-- a count of an element's positions
+pub record CountIs (k : Kind) (n r : ℕ) : Type 0 where
+  pub is : r ≡ n
+  pub few : r ≤ sizeOf k
 
 -- ---- the elements of a rule
 
@@ -61,18 +63,21 @@ placedOn mask bits used = bitOr mask (bits * 2 ^ (used + 1) % 2 ^ 64)
 pub record Fits (t : RuleMasks) (e : Element) : Type 0 where
   pub fits : KindFits (e .kind)
   pub room : t .positions + sizeOf (e .kind) ≤ positionLimit
-  pub some : 1 ≤ sizeOf (e .kind)
 
 -- one element more
 abbrev pub gainedBy : RuleMasks → Element → RuleMasks
 gainedBy t e = record {
   positions = t .positions + sizeOf (e .kind);
-  optional = placedOn (t .optional) (optionalBits (e .kind) (e .often)) (t .positions);
-  repeats = placedOn (t .repeats) (repeatBits (e .kind) (e .often)) (t .positions);
+  optional = laidOn (t .optional) (optionalCount (e .kind) (e .often)) (t .positions + 1);
+  repeats = laidOn (t .repeats) (repeatCount (e .kind) (e .often)) (t .positions + 1);
 }
 
 abbrev pub start : RuleMasks
-start = record { positions = 0; optional = 0; repeats = 0 }
+start = record { positions = 0; optional = noBits; repeats = noBits }
+
+-- how many of its positions are not optional
+abbrev pub requiredOf : RuleMasks → ℕ
+requiredOf t = Step.shortest 256 (onesFrom (t .positions) 1) (number (t .optional))
 
 -- The answer of the rule's reader, case by case: the number and place of the refusal; or, above what t has, the count and the masks of the positions of
 -- the elements.
@@ -80,8 +85,8 @@ abbrev pub gather : (fold : Bool) → RuleMasks → Parsed → Outcome
 gather fold t (refused n p) = Refused n p
 gather fold t (accepted es) = Accepted (record {
   positions = t .positions + length (positions fold es);
-  optional = t .optional + maskFrom isOptional (positions fold es) * 2 ^ (t .positions + 1);
-  repeats = t .repeats + maskFrom isRepeating (positions fold es) * 2 ^ (t .positions + 1);
+  optional = wordsOf (number (t .optional) + maskFrom isOptional (positions fold es) * 2 ^ (t .positions + 1));
+  repeats = wordsOf (number (t .repeats) + maskFrom isRepeating (positions fold es) * 2 ^ (t .positions + 1));
 })
 
 abbrev pub FewPositions : Outcome → Type 0

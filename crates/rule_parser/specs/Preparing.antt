@@ -8,14 +8,22 @@ use Rattle.model.specs.Occurrence.{Position, shortest}
 use Rattle.model.specs.RuleText.{foldFlag, positionLimit, positions}
 use Rattle.model.specs.NumberedAnswers.{Parsed, refused, accepted, parse}
 use Rattle.shift_and.specs.Masks.{optionalMask, repeatsMask}
+use Rattle.shift_and_wide.specs.Wides.{wordsOf, noBits}
 use Rattle.rule_parser.specs.declared.Prepared.{Prepared}
 
 -- "Every refusal has zero counts beside its number and place"
 abbrev pub refusalOf : (number place : ℕ) → Prepared
-refusalOf n p = record { number = n; place = p; positions = 0; shortest = 0; optional = 0; repeats = 0 }
+refusalOf n p = record { number = n; place = p; positions = 0; shortest = 0; optional = noBits; repeats = noBits }
 
 abbrev pub answerOf : List Position → Prepared
-answerOf ps = record { number = 0; place = 0; positions = length ps; shortest = shortest ps; optional = optionalMask ps; repeats = repeatsMask ps }
+answerOf ps = record {
+  number = 0;
+  place = 0;
+  positions = length ps;
+  shortest = shortest ps;
+  optional = wordsOf (optionalMask ps);
+  repeats = wordsOf (repeatsMask ps);
+}
 
 abbrev pub preparedBy : (fold : Bool) → Parsed → Prepared
 preparedBy fold (refused n p) = refusalOf n p

@@ -1,17 +1,18 @@
 // From rule text to counts and masks (document 01, "Rule text" and rows 1 to 8 of "Numbered answers"): `prepare` gives a rule's answer. In a
 // mask bit 0 is the beginning, bit i is position i.
 ghost use mathlib.Core.Path.{_≡_};
-ghost use Prim.Native.Nat.{_≤_, _<_, _+_, _-_, _*_, _^_};
+ghost use Prim.Native.Nat.{_≤_};
 ghost use lib.ListN.{length};
 ghost use Rattle.model.specs.RuleText.{foldFlag, ruleLimit, positionLimit};
-ghost use Rattle.rule_element.specs.Reading.{KindFits, sizeOf};
-ghost use Rattle.rule_parser.specs.Gathering.{optionalBit, repeatBit, optionalBits, repeatBits, placedOn, Fits, gainedBy, ReadsRule};
+ghost use Rattle.rule_element.specs.Reading.{KindFits};
+ghost use Rattle.rule_parser.specs.Gathering.{optionalOnes, repeatOnes, CountIs, optionalCount, repeatCount, Fits, gainedBy, requiredOf, ReadsRule};
 ghost use Rattle.rule_parser.specs.Preparing.{refusalOf, Prepares};
 use limits::RULE_LIMIT;
 use rule_element::Element;
 use rule_element::ElementAnswer;
 use rule_element::Kind;
 use rule_element::Often;
+use shift_and_wide::Wide;
 
 // A rule's answer: number 0 and place 0, the count of its positions, its shortest length, and the
 // masks of the positions that are optional and that repeat. Or the number and place of the refusal,
@@ -21,15 +22,15 @@ pub struct Prepared {
     pub place: u32,
     pub positions: u32,
     pub shortest: u32,
-    pub optional: u64,
-    pub repeats: u64,
+    pub optional: Wide,
+    pub repeats: Wide,
 }
 
 // How many positions some elements make, and the masks of those that are optional and that repeat.
 pub struct RuleMasks {
     pub positions: u32,
-    pub optional: u64,
-    pub repeats: u64,
+    pub optional: Wide,
+    pub repeats: Wide,
 }
 
 // What a rule's elements make; or the number and place of the leftmost fault.
@@ -48,25 +49,9 @@ pub fn folds(fold: u32) -> bool
     true
 }
 
-// The lowest n bits.
-pub fn low_ones(n: u32) -> u64
-    requires { ⌜ n ≤ positionLimit ⌝ }
-    ensures { λ r. ⌜ r ≡ 2 ^ n - 1 ⌝ }
-{
-    (1 << n) - 1
-}
-
-// The mask of n positions.
-fn position_mask(n: u32) -> u64
-    requires { ⌜ n ≤ positionLimit ⌝ }
-    ensures { λ r. ⌜ r ≡ (2 ^ n - 1) * 2 ⌝ }
-{
-    low_ones(n) << 1
-}
-
-// Whether an element of one position is optional.
-fn optional_bit(often: Often) -> u64
-    ensures { λ r. ⌜ r ≡ optionalBit often ⌝ }
+// How many positions are optional of an element that makes one.
+fn optional_ones(often: Often) -> u32
+    ensures { λ r. ⌜ r ≡ optionalOnes often ⌝ }
 {
     match often {
         Often::Once => 0,
@@ -76,9 +61,9 @@ fn optional_bit(often: Often) -> u64
     }
 }
 
-// Whether an element of one position repeats.
-fn repeat_bit(often: Often) -> u64
-    ensures { λ r. ⌜ r ≡ repeatBit often ⌝ }
+// How many repeat.
+fn repeat_ones(often: Often) -> u32
+    ensures { λ r. ⌜ r ≡ repeatOnes often ⌝ }
 {
     match often {
         Often::Once => 0,
@@ -88,55 +73,48 @@ fn repeat_bit(often: Often) -> u64
     }
 }
 
-// Which of an element's positions are optional, its first at bit 0: of a gap's b positions the first
-// b - a.
-fn optional_bits(kind: Kind, often: Often) -> u64
+// How many of an element's positions are optional; they are its first: of a gap's b positions b - a.
+fn optional_count(kind: Kind, often: Often) -> u32
     requires { ⌜ KindFits kind ⌝ }
-    requires { ⌜ sizeOf kind ≤ positionLimit ⌝ }
-    ensures { λ r. ⌜ r ≡ optionalBits kind often ⌝ }
+    ensures { λ r. ⌜ CountIs kind (optionalCount kind often) r ⌝ }
 {
     match kind {
-        Kind::Byte(_) => optional_bit(often),
-        Kind::Any => optional_bit(often),
-        Kind::Class(_) => optional_bit(often),
-        Kind::Gap(a, b) => low_ones(b - a),
+        Kind::Byte(_) => optional_ones(often),
+        Kind::Any => optional_ones(often),
+        Kind::Class(_) => optional_ones(often),
+        Kind::Gap(a, b) => b - a,
     }
 }
 
-// Which of an element's positions repeat, its first at bit 0.
-fn repeat_bits(kind: Kind, often: Often) -> u64
-    ensures { λ r. ⌜ r ≡ repeatBits kind often ⌝ }
+// How many of an element's positions repeat; they are its first.
+fn repeat_count(kind: Kind, often: Often) -> u32
+    ensures { λ r. ⌜ CountIs kind (repeatCount kind often) r ⌝ }
 {
     match kind {
-        Kind::Byte(_) => repeat_bit(often),
-        Kind::Any => repeat_bit(often),
-        Kind::Class(_) => repeat_bit(often),
+        Kind::Byte(_) => repeat_ones(often),
+        Kind::Any => repeat_ones(often),
+        Kind::Class(_) => repeat_ones(often),
         Kind::Gap(_, _) => 0,
     }
 }
 
-// The mask with an element's bits laid above the positions used before it.
-fn place_bits(mask: u64, bits: u64, used: u32) -> u64
-    requires { ⌜ used < positionLimit ⌝ }
-    ensures { λ r. ⌜ r ≡ placedOn mask bits used ⌝ }
-{
-    mask | bits << (used + 1)
-}
-
-// One element more.
+// One element more: its bits are laid above the positions used before it.
 fn add_element(t: RuleMasks, element: Element) -> RuleMasks
     requires { ⌜ Fits t element ⌝ }
     ensures { λ r. ⌜ r ≡ gainedBy t element ⌝ }
 {
     let kind = element.kind;
     let often = element.often;
-    let optional = place_bits(t.optional, optional_bits(kind, often), t.positions);
-    let repeats = place_bits(t.repeats, repeat_bits(kind, often), t.positions);
-    let positions = t.positions + rule_element::size(kind);
+    let optional = t.optional;
+    let repeats = t.repeats;
+    let o = optional_count(kind, often);
+    let r = repeat_count(kind, often);
+    let from = t.positions + 1;
+    let n = t.positions + rule_element::size(kind);
     RuleMasks {
-        positions: positions,
-        optional: optional,
-        repeats: repeats,
+        positions: n,
+        optional: shift_and_wide::laid(optional, o, from),
+        repeats: shift_and_wide::laid(repeats, r, from),
     }
 }
 
@@ -145,10 +123,11 @@ fn read_rule(rule: &[u8], fold: bool) -> Outcome
     requires { ⌜ length (now rule) ≤ ruleLimit ⌝ }
     ensures { λ r. ⌜ ReadsRule fold (now (rule .entry)) r ⌝ }
 {
+    let none = shift_and_wide::no_bits();
     let mut t = RuleMasks {
         positions: 0,
-        optional: 0,
-        repeats: 0,
+        optional: none,
+        repeats: none,
     };
     let mut at = 0;
     while at < rule.len() {
@@ -168,16 +147,28 @@ fn read_rule(rule: &[u8], fold: bool) -> Outcome
     Outcome::Accepted(t)
 }
 
+// How many of all the positions are not optional.
+fn required(masks: RuleMasks) -> u32
+    requires { ⌜ masks .positions ≤ positionLimit ⌝ }
+    ensures { λ r. ⌜ r ≡ requiredOf masks ⌝ }
+{
+    let none = shift_and_wide::no_bits();
+    let all = shift_and_wide::laid(none, masks.positions, 1);
+    let optional = masks.optional;
+    shift_and_wide::shortest(all, optional)
+}
+
 fn refusal(number: u32, place: u32) -> Prepared
     ensures { λ r. ⌜ r ≡ refusalOf number place ⌝ }
 {
+    let none = shift_and_wide::no_bits();
     Prepared {
         number: number,
         place: place,
         positions: 0,
         shortest: 0,
-        optional: 0,
-        repeats: 0,
+        optional: none,
+        repeats: none,
     }
 }
 
@@ -198,18 +189,20 @@ pub fn prepare(rule: &[u8], fold: u32) -> Prepared
             return refusal(number, place);
         }
         Outcome::Accepted(masks) => {
-            let m = shift_and::shortest(position_mask(masks.positions), masks.optional);
+            let m = required(masks);
             if m == 0 {
                 let end = rule.len() as u32;
                 return refusal(answers::ADMITS_EMPTY, end);
             }
+            let optional = masks.optional;
+            let repeats = masks.repeats;
             return Prepared {
                 number: 0,
                 place: 0,
                 positions: masks.positions,
                 shortest: m,
-                optional: masks.optional,
-                repeats: masks.repeats,
+                optional: optional,
+                repeats: repeats,
             };
         }
     }

@@ -1,16 +1,18 @@
 -- The laws of `fill`: an entry after each element, forwards and reversed. On plain values. Assumes nothing.
 use mathlib.Core.Path.{_≡_, refl, sym, ap, ap₂, _∙_}
-use mathlib.Core.List.{List, [], _∷_, _++_, reverse, reverse-cons, reverse-append}
+use mathlib.Core.List.{List, [], _∷_, _++_, append-assoc, reverse, reverse-cons, reverse-append}
 use mathlib.Core.Bool.{Bool, true, false, cond, _&&_}
 use Prim.Native.Nat.{ℕ, zero, suc, _+_, _-_, _*_, _%_, _^_, _≤_, _<_}
 use native.Mathlib.Omega.{arith}
-use native.Mathlib.Nat.{add-zero, zero-add, mul-assoc, add-mul, zero-mul}
-use lib.ListN.{length, getD, drop, replicate, length-append, length-reverse}
-use lib.Seq.{ext-getD}
+use native.Mathlib.Nat.{add-zero, zero-add, mul-assoc, add-mul, zero-mul, zero-div, div-eq-of-lt}
+use native.Mathlib.Numerals.{add-one}
+use lib.ListN.{length, getD, take, drop, replicate, length-append, length-reverse}
+use lib.Seq.{ext-getD, take-at, take-all, length-take-le}
 use lib.Bits.{bitOr, or-zero-r, or-shifted}
-use lib.Pow.{pow-add, pow-pos, shl-lt, shl-exact}
+use lib.Pow.{pow-add, pow-pos, shl-lt}
 use lib.Dec.{eqb, ltb}
 use borrow.Author.Tests.{lt-ltb}
+use borrow.Rule.Slice.PartMut.{midOf, putMid, mid-len, same-len-mid}
 use Rattle.model.specs.RefusalNumbers.{ruleEmpty, ruleLong, admitsEmpty}
 use Rattle.model.specs.Occurrence.{Position, oneIf, shortest}
 use Rattle.model.specs.RuleText as Model
@@ -18,18 +20,19 @@ use Rattle.model.specs.RuleText.{foldFlag, ruleLimit, positionLimit, byte, any,
 use Rattle.model.specs.NumberedAnswers.{Parsed, refused, accepted, addElement, elementsFrom, orEmpty, parse, positionsBy, rulePositions}
 use Rattle.model.proofs.Refusals.{refusal-row}
 use Rattle.shift_and.specs.Masks.{maskFrom, mask, admitsMask}
-use Rattle.shift_and.proofs.MaskLaws.{mask-append}
+use Rattle.shift_and.proofs.MaskLaws.{mask-append, mask-fits}
+use Rattle.shift_and_wide.specs.Wides.{wordOf, onesFrom}
+use Rattle.shift_and_wide.proofs.Masks.{word-or}
 use Rattle.byte_set.proofs.SetLaws.{class-member}
 use Rattle.rule_element.specs.declared.Kind.{Kind}
 use Rattle.rule_element.specs.declared.Element.{Element}
 use Rattle.rule_element.specs.declared.ElementAnswer.the-variants.{Got, Refused}
 use Rattle.rule_element.specs.declared.ElementResult.{ElementResult}
 use Rattle.rule_element.specs.Reading.{kindOf, setOf, sizeOf, KindFits, ElementMoves, ReadsElement}
-use Rattle.rule_parser.specs.Gathering.{placedOn}
 use Rattle.rule_parser.specs.Preparing.{preparedBy, prepared}
-use Rattle.rule_table.specs.Tables.{entriesFrom, tableOf, rowOf, Cleared, gained, admitsBy, SlotsFit, slotBits, Placed, Fillable, Filled}
+use Rattle.rule_table.specs.Tables.{entriesFrom, planeOf, tableOf, rowOf, Cleared, gained, admitsBy, SlotsFit, slotBits, Placed, Counted, PlaneFillable, PlaneFilled, Fillable, Filled}
 use Rattle.rule_parser.proofs.ElementMasks.{kind-length}
-use Rattle.rule_parser.proofs.RuleLaws.{elements-end, element-refused, Found, moved, element-found, placed-lt, placed-mask, size-some}
+use Rattle.rule_parser.proofs.RuleLaws.{elements-end, element-refused, Found, moved, element-found, placedOn, placed-lt, placed-mask}
 
 -- ---- lists whose positions all have a property, or none has it
 
@@ -78,34 +81,32 @@ abbrev pub Entry : (reversed : Bool) → (Position → Bool) → (used : ℕ) (l
 Entry false f used left all x = (x < 2 ^ (used + 1)) × (x + maskFrom f left * 2 ^ (used + 1) ≡ mask f all)
 Entry true f used left all x = (y : ℕ) × (x ≡ y * 2 ^ (length left + 1)) × (x + mask f (reverse left) ≡ mask f (reverse all))
 
-module _ (f : Position → Bool) (b : Bool) (kp ps all : List Position) (every : Every f b kp) (used n x : ℕ) (long : length kp ≡ n) (room : used + n ≤ positionLimit) where
-  gained-on : gained b ((2 ^ n - 1) * 2 ^ (used + 1) % 2 ^ 64) x ≡ placedOn x (full b n) used
+module _ (f : Position → Bool) (b : Bool) (kp ps all : List Position) (every : Every f b kp) (used n x : ℕ) (long : length kp ≡ n) where
+  gained-on : gained b (onesFrom n (used + 1)) x ≡ placedOn x (full b n) used
   gained-on = go b
     where
-      go : (b : Bool) → gained b ((2 ^ n - 1) * 2 ^ (used + 1) % 2 ^ 64) x ≡ placedOn x (full b n) used
+      go : (b : Bool) → gained b (onesFrom n (used + 1)) x ≡ placedOn x (full b n) used
       go true = refl
       go false = rw zero-mul (sym (or-zero-r x))
 
-  entry-on : Entry false f used (kp ++ ps) all x → Entry false f (used + n) ps all (gained b ((2 ^ n - 1) * 2 ^ (used + 1) % 2 ^ 64) x)
+  entry-on : Entry false f used (kp ++ ps) all x → Entry false f (used + n) ps all (gained b (onesFrom n (used + 1)) x)
   entry-on e =
       let v = full b n in
       let l = full-lt b n in
       let m : maskFrom f (kp ++ ps) ≡ v + maskFrom f ps * 2 ^ n = mask-append f kp ps ∙ ap₂ (λ (a k : ℕ). a + maskFrom f ps * 2 ^ k) (every-mask f b kp every ∙ ap (full b) long) long in (
-        rw gained-on (placed-lt x v used n (e .0) l room),
-        rw gained-on (sym (placed-mask x used n v (maskFrom f ps) (e .0) l room) ∙ ap (λ (a : ℕ). x + a * 2 ^ (used + 1)) (sym m) ∙ e .1),
+        rw gained-on (placed-lt x v used n (e .0) l),
+        rw gained-on (sym (placed-mask x used n v (maskFrom f ps) (e .0)) ∙ ap (λ (a : ℕ). x + a * 2 ^ (used + 1)) (sym m) ∙ e .1),
       )
 
-  module _ (total : ℕ) (count : used + n + length ps ≡ total) (few : total ≤ positionLimit) where
+  module _ (total : ℕ) (count : used + n + length ps ≡ total) where
     abbrev L : ℕ
     L = length ps
 
     abbrev bits : ℕ
-    bits = (2 ^ n - 1) * 2 ^ (total - used - n + 1) % 2 ^ 64
+    bits = onesFrom n (total - used - n + 1)
 
-    is-bits : bits ≡ (2 ^ n - 1) * 2 ^ (L + 1)
-    is-bits =
-        let k : total - used - n + 1 ≡ L + 1 = omega arith in
-        ap (λ (j : ℕ). (2 ^ n - 1) * 2 ^ j % 2 ^ 64) k ∙ shl-exact n (L + 1) 64 (full-lt true n) (omega arith)
+    is-bits : bits ≡ onesFrom n (L + 1)
+    is-bits = let k : total - used - n + 1 ≡ L + 1 = omega arith in ap (onesFrom n) k
 
     gained-back : (y : ℕ) → x ≡ y * 2 ^ (n + (L + 1)) → gained b bits x ≡ x + full b n * 2 ^ (L + 1)
     gained-back y e = go b
@@ -128,6 +129,16 @@ module _ (f : Position → Bool) (b : Bool) (kp ps all : List Position) (every :
         let h : y * 2 ^ (n + (L + 1)) + v * 2 ^ (L + 1) ≡ (y * 2 ^ n + v) * 2 ^ (L + 1) = rw (add-mul, pow-add 2 n (L + 1), mul-assoc) in
         (y * 2 ^ n + v, g ∙ ap (λ (a : ℕ). a + v * 2 ^ (L + 1)) ex ∙ h, rw g (let z : x + v * 2 ^ (L + 1) + mask f (reverse ps) ≡ mask f (reverse all) = omega (arith, e .2) in z))
 
+-- one word of it
+pub record PlaneEntry (word : ℕ) (reversed : Bool) (f : Position → Bool) (used : ℕ) (left all : List Position) (x : ℕ) : Type 0 where
+  pub whole : ℕ
+  pub is-word : x ≡ wordOf word whole
+  pub entry : Entry reversed f used left all whole
+
+word-gained : (j : ℕ) (b : Bool) (bits x : ℕ) → wordOf j (gained b bits x) ≡ gained b (wordOf j bits) (wordOf j x)
+word-gained j true bits x = word-or j x bits
+word-gained j false bits x = refl
+
 -- ---- what an element admits
 
 admits-is : (fold : Bool) (used : ℕ) (d : Model.Kind) (c : ℕ) → c < 256 → admitsBy fold (kindOf used d) (setOf fold d) c ≡ (isByte c && kindSet fold d c)
@@ -147,28 +158,34 @@ kind-every fold (gap a b) o c =
     every-append (λ p. p .set c) (isByte c && true) (replicate (b - a) (position fold any optional)) (replicate a (position fold any once))
     (every-replicate (λ p. p .set c) (isByte c && true) (position fold any optional) refl (b - a)) (every-replicate (λ p. p .set c) (isByte c && true) (position fold any once) refl a)
 
--- ---- the table of a list of positions, entry by entry
+-- ---- a plane of a list of positions, entry by entry
 
-pub long-entries : (ps : List Position) (n c : ℕ) → length (entriesFrom ps c n) ≡ n
+pub long-entries : (j : ℕ) (ps : List Position) (n c : ℕ) → length (entriesFrom j ps c n) ≡ n
 unfolding entriesFrom
-long-entries ps zero c = refl
-long-entries ps (suc n) c = ap suc (long-entries ps n (suc c))
+long-entries j ps zero c = refl
+long-entries j ps (suc n) c = ap suc (long-entries j ps n (suc c))
 
-pub entry-at : (ps : List Position) (n c i : ℕ) → i < n → getD (entriesFrom ps c n) i 0 ≡ admitsMask ps (c + i)
+pub entry-at : (j : ℕ) (ps : List Position) (n c i : ℕ) → i < n → getD (entriesFrom j ps c n) i 0 ≡ wordOf j (admitsMask ps (c + i))
 unfolding entriesFrom
-entry-at ps zero c i l = absurd (omega arith)
-entry-at ps (suc n) c zero l = ap (admitsMask ps) (sym (add-zero c))
-entry-at ps (suc n) c (suc i) l = entry-at ps n (suc c) i (omega arith) ∙ ap (admitsMask ps) (let z : suc c + i ≡ c + suc i = omega arith in z)
+entry-at j ps zero c i l = absurd (omega arith)
+entry-at j ps (suc n) c zero l = ap (λ (k : ℕ). wordOf j (admitsMask ps k)) (sym (add-zero c))
+entry-at j ps (suc n) c (suc i) l = entry-at j ps n (suc c) i (omega arith) ∙ ap (λ (k : ℕ). wordOf j (admitsMask ps k)) (let z : suc c + i ≡ c + suc i = omega arith in z)
+
+-- a list with these entries is the plane
+plane-is : (j : ℕ) (ps : List Position) (t : List ℕ) → length t ≡ 256 → ((i : ℕ) → i < 256 → getD t i 0 ≡ wordOf j (admitsMask ps i)) → t ≡ planeOf j ps
+plane-is j ps t l h =
+    ext-getD 0 t (planeOf j ps) (l ∙ sym (long-entries j ps 256 0)) λ i k. let m : i < 256 = omega arith in h i m ∙ sym (entry-at j ps 256 0 i m ∙ ap (λ (c : ℕ). wordOf j (admitsMask ps c)) (zero-add i))
 
 -- ---- the loop
 
-pub record Filling (fold : Bool) (s : List ℕ) (all : List Position) (reversed : Bool) (total : ℕ) (table : List ℕ) (at used : ℕ) : Type 0 where
+pub record Filling (fold : Bool) (s : List ℕ) (all : List Position) (reversed : Bool) (total word : ℕ) (plane : List ℕ) (at used : ℕ) : Type 0 where
   pub left : List Model.Element
   pub rest : elementsFrom positionLimit fold 0 at used (drop at s) ≡ accepted left
   pub count : used + length (positions fold left) ≡ total
   pub few : total ≤ positionLimit
-  pub long : length table ≡ 256
-  pub each : (c : ℕ) → c < 256 → Entry reversed (λ p. p .set c) used (positions fold left) all (getD table c 0)
+  pub one : word < 4
+  pub long : length plane ≡ 256
+  pub each : (c : ℕ) → c < 256 → PlaneEntry word reversed (λ p. p .set c) used (positions fold left) all (getD plane c 0)
 
 -- a rule whose number is 0 is accepted
 pub record Accepts (fold : Bool) (s : List ℕ) : Type 0 where
@@ -205,32 +222,46 @@ accepts fold s z = go (parse fold s) refl
         let e : n ≡ 0 = sym (ap (λ (y : Parsed). preparedBy fold y .number) q) ∙ z in
         absurd (omega arith)
 
-pub fill-begun : (flag : ℕ) (s : List ℕ) (total : ℕ) (table₀ table : List ℕ) (reversed : Bool) → Fillable flag s total table₀ → Cleared table 256 → (f : Bool) → f ≡ foldFlag flag → Filling f s (rulePositions (foldFlag flag) s) reversed total table 0 0
-unfolding prepared
-fill-begun flag s total table₀ table reversed h k f ef =
-    let es = accepts (foldFlag flag) s (h .fine) in
-    let a : rulePositions (foldFlag flag) s ≡ positions f (es .elements) = ap (positionsBy (foldFlag flag)) (es .parses) ∙ ap (λ (b : Bool). positions b (es .elements)) (sym ef) in
-    let n : total ≡ length (positions f (es .elements)) = h .count ∙ ap (λ (y : Parsed). preparedBy (foldFlag flag) y .positions) (es .parses) ∙ ap (λ (b : Bool). length (positions b (es .elements))) (sym ef) in
+module _ (flag : ℕ) (s : List ℕ) (total : ℕ) (h : Counted flag s total) where
+  counted-rule : Accepts (foldFlag flag) s
+  unfolding prepared
+  counted-rule = accepts (foldFlag flag) s (h .fine)
+
+  counted-positions : rulePositions (foldFlag flag) s ≡ positions (foldFlag flag) (counted-rule .elements)
+  counted-positions = ap (positionsBy (foldFlag flag)) (counted-rule .parses)
+
+  counted-length : total ≡ length (rulePositions (foldFlag flag) s)
+  unfolding prepared
+  counted-length = h .count ∙ ap (λ (y : Parsed). preparedBy (foldFlag flag) y .positions) (counted-rule .parses) ∙ ap length (sym counted-positions)
+
+pub zero-word : (j : ℕ) → wordOf j 0 ≡ 0
+zero-word j = ap (λ (v : ℕ). v % 2 ^ 64) (zero-div (2 ^ (j * 64)))
+
+pub fill-begun : (flag : ℕ) (s : List ℕ) (total word : ℕ) (plane₀ plane : List ℕ) (reversed : Bool) → PlaneFillable flag s total plane₀ word → Cleared plane 256 → (f : Bool) → f ≡ foldFlag flag → Filling f s (rulePositions (foldFlag flag) s) reversed total word plane 0 0
+fill-begun flag s total word plane₀ plane reversed h k f ef =
+    let es = counted-rule flag s total (h .rule-counted) in
+    let a : rulePositions (foldFlag flag) s ≡ positions f (es .elements) = counted-positions flag s total (h .rule-counted) ∙ ap (λ (b : Bool). positions b (es .elements)) (sym ef) in
     record {
       left = es .elements;
       rest = ap (λ (b : Bool). elementsFrom positionLimit b 0 0 0 s) ef ∙ es .reads;
-      count = zero-add _ ∙ sym n;
-      few = h .few;
+      count = zero-add _ ∙ sym (counted-length flag s total (h .rule-counted) ∙ ap length a);
+      few = h .rule-counted .few;
+      one = h .one;
       long = k .long;
-      each = λ c l. rw (k .zeros c l, a) (first (λ p. p .set c) (positions f (es .elements)) reversed);
+      each = λ c l. record { whole = 0; is-word = k .zeros c l ∙ sym (zero-word word); entry = rw a (first (λ p. p .set c) (positions f (es .elements)) reversed) };
     }
   where
     first : (g : Position → Bool) (ps : List Position) (reversed : Bool) → Entry reversed g 0 ps ps 0
     first g ps false = (omega arith, omega arith)
     first g ps true = (0, sym (zero-mul _), zero-add _)
 
-module _ (f : Bool) (s : List ℕ) (all : List Position) (reversed : Bool) (total : ℕ) (table : List ℕ) (at used : ℕ) (g : Filling f s all reversed total table at used) where
+module _ (f : Bool) (s : List ℕ) (all : List Position) (reversed : Bool) (total word : ℕ) (plane : List ℕ) (at used : ℕ) (g : Filling f s all reversed total word plane at used) where
   accepted-inj : {es fs : List Model.Element} → accepted es ≡ accepted fs → es ≡ fs
   accepted-inj e = cc
 
-  pub fill-over : length s ≤ at → (flag : ℕ) → all ≡ rulePositions (foldFlag flag) s → Filled flag s reversed table
+  pub fill-over : length s ≤ at → (flag : ℕ) → all ≡ rulePositions (foldFlag flag) s → PlaneFilled flag s reversed plane word
   unfolding maskFrom
-  fill-over h flag ea = record { long = g .long; is = ext-getD 0 table (tableOf (rowOf reversed (rulePositions (foldFlag flag) s))) (g .long ∙ sym (long-entries (rowOf reversed (rulePositions (foldFlag flag) s)) 256 0)) same }
+  fill-over h flag ea = record { long = g .long; is = plane-is word (rowOf reversed (rulePositions (foldFlag flag) s)) plane (g .long) same }
     where
       none : g .left ≡ []
       none = accepted-inj (sym (g .rest) ∙ elements-end f used s at h)
@@ -239,16 +270,14 @@ module _ (f : Bool) (s : List ℕ) (all : List Position) (reversed : Bool) (tota
       last q false x e = (let z : x ≡ x + 0 * 2 ^ (used + 1) = rw zero-mul (sym (add-zero x)) in z) ∙ e .1
       last q true x e = sym (add-zero x) ∙ e .2
 
-      same : (i : ℕ) → i < length table → getD table i 0 ≡ getD (tableOf (rowOf reversed (rulePositions (foldFlag flag) s))) i 0
-      same i l =
-          let k : i < 256 = omega (arith, g .long) in
-          last (λ p. p .set i) reversed (getD table i 0) (rw none at (g .each i k))
-          ∙ ap (λ (ps : List Position). admitsMask (rowOf reversed ps) i) ea
-          ∙ sym (entry-at (rowOf reversed (rulePositions (foldFlag flag) s)) 256 0 i k ∙ ap (admitsMask (rowOf reversed (rulePositions (foldFlag flag) s))) (zero-add i))
+      same : (i : ℕ) → i < 256 → getD plane i 0 ≡ wordOf word (admitsMask (rowOf reversed (rulePositions (foldFlag flag) s)) i)
+      same i k =
+          let e = g .each i k in
+          e .is-word ∙ ap (wordOf word) (last (λ p. p .set i) reversed (e .whole) (rw none at (e .entry)) ∙ ap (λ (ps : List Position). admitsMask (rowOf reversed ps) i) ea)
 
   module _ (h : at < length s) (r : ElementResult) (rc : ReadsElement f used s at r) where
     -- an accepted rule has no element that is refused
-    pub fill-never : (k : ℕ) → r .answer ≡ Refused k → (flag : ℕ) → Filled flag s reversed table
+    pub fill-never : (k : ℕ) → r .answer ≡ Refused k → (flag : ℕ) → PlaneFilled flag s reversed plane word
     fill-never k e flag = clash (sym (element-refused f used s at h r rc k e) ∙ g .rest)
 
     module _ (element : Element) (to : ℕ) (e : r .answer ≡ Got element to) where
@@ -292,26 +321,109 @@ module _ (f : Bool) (s : List ℕ) (all : List Position) (reversed : Bool) (tota
       counted : used + n + length (positions f (after .0)) ≡ total
       counted = omega (arith, g .count, ap length is-left, length-append kp (positions f (after .0)), long-kp)
 
-      pub fill-room : SlotsFit n used total
-      fill-room = record { some = size-some (element .kind) (moves .fits); room = omega (arith, counted); few = g .few }
+      pub fill-room : SlotsFit n used total word
+      fill-room = record { room = omega (arith, counted); few = g .few; one = g .one }
 
       next : (d : Bool) (c x : ℕ) → Entry d (λ p. p .set c) used (kp ++ positions f (after .0)) all x
           → Entry d (λ p. p .set c) (used + n) (positions f (after .0)) all (gained (isByte c && kindSet f (found .kind) c) (slotBits n used total d) x)
       unfolding kp
-      next false c x e = entry-on (λ p. p .set c) (isByte c && kindSet f (found .kind) c) kp (positions f (after .0)) all (kind-every f (found .kind) (found .often) c) used n x long-kp (omega (arith, counted, g .few)) e
-      next true c x e = entry-back (λ p. p .set c) (isByte c && kindSet f (found .kind) c) kp (positions f (after .0)) all (kind-every f (found .kind) (found .often) c) used n x long-kp (omega (arith, counted, g .few)) total counted (g .few) e
+      next false c x e = entry-on (λ p. p .set c) (isByte c && kindSet f (found .kind) c) kp (positions f (after .0)) all (kind-every f (found .kind) (found .often) c) used n x long-kp e
+      next true c x e = entry-back (λ p. p .set c) (isByte c && kindSet f (found .kind) c) kp (positions f (after .0)) all (kind-every f (found .kind) (found .often) c) used n x long-kp total counted e
 
-      pub fill-turn : (m : ℕ) (table′ : List ℕ) → Placed f (element .kind) (r .set) used total reversed table m table′ → Filling f s all reversed total table′ to (used + m)
-      fill-turn m table′ d = rw (d .size) (record {
+      pub fill-turn : (m : ℕ) (plane′ : List ℕ) → Placed f (element .kind) (r .set) used total reversed word plane m plane′ → Filling f s all reversed total word plane′ to (used + m)
+      fill-turn m plane′ d = rw (d .size) (record {
         left = after .0;
         rest = after .1;
         count = counted;
         few = g .few;
+        one = g .one;
         long = d .gains .long;
         each = λ c l.
-            let e : Entry reversed (λ p. p .set c) used (kp ++ positions f (after .0)) all (getD table c 0) = rw is-left at (g .each c l) in
-            let b : admitsBy f (element .kind) (r .set) c ≡ (isByte c && kindSet f (found .kind) c) = ap₂ (λ (k : Kind) (w : List ℕ). admitsBy f k w c) same-kind (found .is-set) ∙ admits-is f used (found .kind) c l in
-            let q : getD table′ c 0 ≡ gained (isByte c && kindSet f (found .kind) c) (slotBits n used total reversed) (getD table c 0) =
-            d .gains .each c l ∙ ap (λ (y : Bool). gained y (slotBits n used total reversed) (getD table c 0)) b in
-            rw q (next reversed c (getD table c 0) e);
+            let e = g .each c l in
+            let bits = slotBits n used total reversed in
+            let has = isByte c && kindSet f (found .kind) c in
+            let b : admitsBy f (element .kind) (r .set) c ≡ has = ap₂ (λ (k : Kind) (w : List ℕ). admitsBy f k w c) same-kind (found .is-set) ∙ admits-is f used (found .kind) c l in
+            record {
+              whole = gained has bits (e .whole);
+              is-word = d .gains .each c l ∙ ap₂ (λ (y : Bool) (x : ℕ). gained y (wordOf word bits) x) b (e .is-word) ∙ sym (word-gained word has bits (e .whole));
+              entry = next reversed c (e .whole) (rw is-left at (e .entry));
+            };
       })
+
+-- ---- a word that no position has a bit in
+
+pub row-length : (reversed : Bool) (ps : List Position) → length (rowOf reversed ps) ≡ length ps
+row-length true ps = length-reverse ps
+row-length false ps = refl
+
+none-above : (j : ℕ) (ps : List Position) (c : ℕ) → length ps < j * 64 → wordOf j (admitsMask ps c) ≡ 0
+none-above j ps c l = ap (λ (v : ℕ). v % 2 ^ 64) (div-eq-of-lt (mask-fits (j * 64) (λ p. p .set c) ps l))
+
+pub plane-cleared : (flag : ℕ) (s : List ℕ) (total word : ℕ) (plane₀ plane : List ℕ) (reversed : Bool) → PlaneFillable flag s total plane₀ word → total < word * 64 → Cleared plane 256 → PlaneFilled flag s reversed plane word
+plane-cleared flag s total word plane₀ plane reversed h l k =
+    let ps = rulePositions (foldFlag flag) s in
+    let few : length (rowOf reversed ps) < word * 64 = omega (arith, row-length reversed ps, counted-length flag s total (h .rule-counted)) in
+    record { long = k .long; is = plane-is word (rowOf reversed ps) plane (k .long) λ i m. k .zeros i m ∙ sym (none-above word (rowOf reversed ps) i few) }
+
+-- ---- plane after plane
+
+unfoldable pub planesBelow : (j : ℕ) → List Position → List ℕ
+planesBelow zero ps = []
+planesBelow (suc j) ps = planesBelow j ps ++ planeOf j ps
+
+four-planes : (ps : List Position) → planesBelow 4 ps ≡ tableOf ps
+unfolding planesBelow
+four-planes ps = simp append-assoc
+
+-- the planes below `word` are filled, `at` words
+pub record FillingPlanes (flag : ℕ) (s : List ℕ) (reversed : Bool) (table : List ℕ) (word at : ℕ) : Type 0 where
+  pub within : word ≤ 4
+  pub place : at ≡ word * 256
+  pub long : length table ≡ 1024
+  pub filled : take at table ≡ planesBelow word (rowOf reversed (rulePositions (foldFlag flag) s))
+
+module _ (flag : ℕ) (s : List ℕ) (reversed : Bool) where
+  pub planes-begun : (table : List ℕ) → length table ≡ 1024 → FillingPlanes flag s reversed table 0 0
+  unfolding planesBelow
+  planes-begun table l = record { within = omega arith; place = refl; long = l; filled = refl }
+
+  module _ (table : List ℕ) (word at : ℕ) (g : FillingPlanes flag s reversed table word at) where
+    pub planes-over : 4 ≤ word → Filled flag s reversed table
+    planes-over h =
+        let w : word ≡ 4 = omega (arith, g .within) in
+        let a : 1024 ≡ at = omega (arith, g .place) in
+        let l = g .long in
+        record {
+          long = g .long;
+          is =
+              sym (take-all at table (omega arith)) ∙ g .filled
+              ∙ ap (λ (j : ℕ). planesBelow j (rowOf reversed (rulePositions (foldFlag flag) s))) w
+              ∙ four-planes (rowOf reversed (rulePositions (foldFlag flag) s));
+        }
+
+    module _ (h : word < 4) where
+      pub plane-room : at + 256 ≤ length table
+      plane-room = omega (arith, g .place, g .long)
+
+      part-length : length (midOf at (at + 256 - at) table) ≡ 256
+      part-length = mid-len at (at + 256) table plane-room ∙ (let z : at + 256 - at ≡ 256 = omega arith in z)
+
+      pub plane-fillable : (total : ℕ) (t₀ : List ℕ) → Fillable flag s total t₀ → PlaneFillable flag s total (midOf at (at + 256 - at) table) word
+      plane-fillable total t₀ k = record { rule-counted = k .rule-counted; long = part-length; one = h }
+
+      pub planes-turn : (plane : List ℕ) → PlaneFilled flag s reversed plane word → FillingPlanes flag s reversed (putMid at (at + 256 - at) table plane) (word + 1) (at + 256)
+      unfolding planesBelow
+      planes-turn plane k =
+          let row = rowOf reversed (rulePositions (foldFlag flag) s) in
+          let rest = drop (at + 256 - at) (drop at table) in
+          let m : length (take at table) ≡ at = length-take-le at table (omega (arith, plane-room)) in
+          let n : length (take at table ++ plane) ≡ at + 256 = length-append (take at table) plane ∙ ap₂ _+_ m (k .long) in
+          record {
+            within = omega arith;
+            place = omega (arith, g .place);
+            long = same-len-mid at (at + 256 - at) table plane (k .long ∙ sym part-length) ∙ g .long;
+            filled =
+                ap (take (at + 256)) (sym (append-assoc (take at table) plane rest)) ∙ take-at (take at table ++ plane) rest (at + 256) n
+                ∙ ap₂ (λ (x y : List ℕ). x ++ y) (g .filled) (k .is)
+                ∙ ap (λ (j : ℕ). planesBelow j row) (sym (add-one word));
+          }

@@ -2,7 +2,7 @@
 use mathlib.Core.Path.{_≡_, refl, sym, ap, ap₂, _∙_}
 use mathlib.Core.List.{List}
 use mathlib.Core.Bool.{Bool, true, false, _&&_, _||_, or-false}
-use Prim.Native.Nat.{ℕ, _+_, _-_, _*_, _%_, _^_, _≤_, _<_}
+use Prim.Native.Nat.{ℕ, _+_, _-_, _≤_, _<_}
 use native.Mathlib.Omega.{arith}
 use native.Mathlib.Decide.{ℕ-discrete}
 use lib.ListN.{length, getD, set, length-set}
@@ -15,6 +15,7 @@ use Rattle.rule_element.specs.declared.Kind.{Kind}
 use Rattle.rule_element.specs.declared.Kind.the-variants.{Byte, Any, Class, Gap}
 use Rattle.byte_set.specs.Sets.{member}
 use Rattle.rule_element.specs.Reading.{sizeOf}
+use Rattle.shift_and_wide.specs.Wides.{wordOf, onesFrom}
 use Rattle.rule_table.specs.Tables.{Cleared, gained, Gains, always, inSet, hasByte, admitsBy, slotBits, Placed}
 use Rattle.byte_set.proofs.Fold.{fold-twice}
 
@@ -167,14 +168,16 @@ module _ (fold : Bool) (w : List ℕ) (bits : ℕ) (t t′ : List ℕ) (k : Kind
   element-gap a b e g = rw e g
 
 -- ---- `slots`
-module _ (n used total r : ℕ) (reversed : Bool) (e : r ≡ 2 ^ n - 1) where
-  pub slots-back : reversed ≡ true → r * 2 ^ (total - used - n + 1) % 2 ^ 64 ≡ slotBits n used total reversed
-  slots-back q = rw (q, e)
+module _ (n used total word r : ℕ) (reversed : Bool) where
+  pub slots-back : reversed ≡ true → r ≡ wordOf word (onesFrom n (total - used - n + 1)) → r ≡ wordOf word (slotBits n used total reversed)
+  slots-back q e = rw q e
 
-  pub slots-on : reversed ≡ false → r * 2 ^ (used + 1) % 2 ^ 64 ≡ slotBits n used total reversed
-  slots-on q = rw (q, e)
+  pub slots-on : reversed ≡ false → r ≡ wordOf word (onesFrom n (used + 1)) → r ≡ wordOf word (slotBits n used total reversed)
+  slots-on q e = rw q e
 
 -- ---- `place`
-pub placed : (fold : Bool) (kind : Kind) (w : List ℕ) (used total : ℕ) (reversed : Bool) (t : List ℕ) (n bits : ℕ) (t′ : List ℕ) → n ≡ sizeOf kind → bits ≡ slotBits n used total reversed → Gains (admitsBy fold kind w) bits t t′
-    → Placed fold kind w used total reversed t n t′
-placed fold kind w used total reversed t n bits t′ en eb gs = record { size = en; gains = rw (eb, en) at gs }
+pub placed : (fold : Bool) (kind : Kind) (w : List ℕ) (used total : ℕ) (reversed : Bool) (word : ℕ) (t : List ℕ) (n bits : ℕ) (t′ : List ℕ) → n ≡ sizeOf kind → bits ≡ wordOf word (slotBits n used total reversed) → Gains (admitsBy fold kind w) bits t t′
+    → Placed fold kind w used total reversed word t n t′
+placed fold kind w used total reversed word t n bits t′ en eb gs =
+    let e : bits ≡ wordOf word (slotBits (sizeOf kind) used total reversed) = eb ∙ ap (λ (m : ℕ). wordOf word (slotBits m used total reversed)) en in
+    record { size = en; gains = rw e at gs }

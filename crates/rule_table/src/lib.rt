@@ -1,12 +1,17 @@
 // The table of a rule: for each byte the mask of the positions that admit it. Forwards position i stands at bit i, reversed at bit n + 1 - i,
-// n being the number of positions. A lent table has 256 entries.
+// n being the number of positions. A mask has four words, and a lent table four planes of 256: plane j
+// has word j of each byte's mask.
 ghost use mathlib.Core.Path.{_≡_};
-ghost use Prim.Native.Nat.{_<_, _+_};
+ghost use Prim.Native.Nat.{_≤_};
 ghost use lib.ListN.{length};
+ghost use Rattle.model.specs.RuleText.{positionLimit};
 ghost use Rattle.rule_element.specs.Reading.{sizeOf};
-ghost use Rattle.rule_table.specs.Tables.{Cleared, Gains, always, hasByte, inSet, admitsBy, SlotsFit, slotBits, Placed, Fillable, Filled, mirror};
+ghost use Rattle.shift_and_wide.specs.Wides.{number, wordOf, wordsOf};
+ghost use Rattle.rule_table.specs.Tables.{Cleared, Gains, always, hasByte, inSet, admitsBy, SlotsFit, slotBits, Placed};
+ghost use Rattle.rule_table.specs.Tables.{PlaneFillable, PlaneFilled, Fillable, Filled, mirror};
 use rule_element::ElementAnswer;
 use rule_element::Kind;
+use shift_and_wide::Wide;
 
 // Every entry becomes 0.
 fn clear(table: &mut [u64])
@@ -76,20 +81,19 @@ fn admit_element(table: &mut [u64], kind: Kind, set: [u64; 4], fold: bool, bits:
     }
 }
 
-// The bits of n positions after `used` of `total`.
-fn slots(n: u32, used: u32, total: u32, reversed: bool) -> u64
-    requires { ⌜ SlotsFit n used total ⌝ }
-    ensures { λ r. ⌜ r ≡ slotBits n used total reversed ⌝ }
+// A word of the bits of n positions after `used` of `total`.
+fn slots(n: u32, used: u32, total: u32, reversed: bool, word: u32) -> u64
+    requires { ⌜ SlotsFit n used total word ⌝ }
+    ensures { λ r. ⌜ r ≡ wordOf word (slotBits n used total reversed) ⌝ }
 {
-    let ones = rule_parser::low_ones(n);
     if reversed {
-        return ones << (total - used - n + 1);
+        return shift_and_wide::bits_of(n, total - used - n + 1, word);
     }
-    ones << (used + 1)
+    shift_and_wide::bits_of(n, used + 1, word)
 }
 
-// One element after `used` positions of `total`: the entries of the bytes that it admits gain the bits
-// of its positions. Returns how many positions it makes.
+// One element after `used` positions of `total`: the entries of the bytes that it admits gain this word
+// of the bits of its positions. Returns how many positions it makes.
 fn place(
     table: &mut [u64],
     kind: Kind,
@@ -98,24 +102,24 @@ fn place(
     used: u32,
     total: u32,
     reversed: bool,
+    word: u32,
 ) -> u32
     requires { ⌜ length (now table) ≡ 256 ⌝ }
-    requires { ⌜ SlotsFit (sizeOf kind) used total ⌝ }
-    ensures { λ r. ⌜ Placed fold kind set used total reversed (now (table .entry)) r (now (table .exit)) ⌝ }
+    requires { ⌜ SlotsFit (sizeOf kind) used total word ⌝ }
+    ensures { λ r. ⌜ Placed fold kind set used total reversed word (now (table .entry)) r (now (table .exit)) ⌝ }
 {
     let n = rule_element::size(kind);
-    let bits = slots(n, used, total, reversed);
+    let bits = slots(n, used, total, reversed, word);
     admit_element(table, kind, set, fold, bits);
     n
 }
 
-// The table of an accepted rule, whose number of positions `prepare` gave: entry c becomes the mask of
-// the positions that admit c.
-pub fn fill(rule: &[u8], fold: u32, total: u32, table: &mut [u64], reversed: bool)
-    requires { ⌜ Fillable fold (now rule) total (now table) ⌝ }
-    ensures { λ r. ⌜ Filled fold (now (rule .entry)) reversed (now (table .exit)) ⌝ }
+// A plane by the rule: entry c becomes this word of the mask of the positions that admit c.
+fn read_plane(rule: &[u8], fold: u32, total: u32, plane: &mut [u64], reversed: bool, word: u32)
+    requires { ⌜ PlaneFillable fold (now rule) total (now plane) word ⌝ }
+    ensures { λ r. ⌜ PlaneFilled fold (now (rule .entry)) reversed (now (plane .exit)) word ⌝ }
 {
-    clear(table);
+    clear(plane);
     let f = rule_parser::folds(fold);
     let mut at = 0;
     let mut used = 0u32;
@@ -129,24 +133,53 @@ pub fn fill(rule: &[u8], fold: u32, total: u32, table: &mut [u64], reversed: boo
             }
             ElementAnswer::Got(element, next) => {
                 let kind = element.kind;
-                used += place(table, kind, set, f, used, total, reversed);
+                used += place(plane, kind, set, f, used, total, reversed, word);
                 at = next;
             }
         }
     }
 }
 
-// The mask of n positions for the reversed rule: bit i goes to bit n + 1 - i.
-pub fn mirrored(mask: u64, n: u32) -> u64
-    ensures { λ r. ⌜ r ≡ mirror mask n ⌝ }
+// The same; but where no position has a bit in this word, the rule is not read.
+pub fn fill_plane(rule: &[u8], fold: u32, total: u32, plane: &mut [u64], reversed: bool, word: u32)
+    requires { ⌜ PlaneFillable fold (now rule) total (now plane) word ⌝ }
+    ensures { λ r. ⌜ PlaneFilled fold (now (rule .entry)) reversed (now (plane .exit)) word ⌝ }
 {
-    let mut from = mask / 2;
-    let mut to = 0u64;
+    let from = word * 64;
+    if total < from {
+        clear(plane);
+        return;
+    }
+    read_plane(rule, fold, total, plane, reversed, word);
+}
+
+// The table of an accepted rule, whose number of positions `prepare` gave.
+pub fn fill(rule: &[u8], fold: u32, total: u32, table: &mut [u64], reversed: bool)
+    requires { ⌜ Fillable fold (now rule) total (now table) ⌝ }
+    ensures { λ r. ⌜ Filled fold (now (rule .entry)) reversed (now (table .exit)) ⌝ }
+{
+    let mut word = 0u32;
+    let mut at = 0;
+    while word < 4 {
+        let end = at + 256;
+        fill_plane(rule, fold, total, &mut table[at..end], reversed, word);
+        at = end;
+        word += 1;
+    }
+}
+
+// The mask of n positions for the reversed rule: bit i goes to bit n + 1 - i.
+pub fn mirrored(mask: Wide, n: u32) -> Wide
+    requires { ⌜ n ≤ positionLimit ⌝ }
+    ensures { λ r. ⌜ r ≡ wordsOf (mirror (number mask) n) ⌝ }
+{
+    let mut from = shift_and_wide::halved(mask);
+    let mut to = shift_and_wide::no_bits();
     let mut left = n;
     while 0 < left {
-        to = (to << 1) | (from % 2);
-        from = from / 2;
+        to = shift_and_wide::doubled(to, from.w0 % 2);
+        from = shift_and_wide::halved(from);
         left -= 1;
     }
-    to << 1
+    shift_and_wide::doubled(to, 0)
 }

@@ -20,14 +20,14 @@ use Rattle.model.proofs.Truth.{branch, and-left, and-right, and-intro}
 use Rattle.model.proofs.Decoding.{decode-length, held-length, tail-joined, held-cut}
 use Rattle.model.proofs.Scans as Scans
 use Rattle.model.proofs.Scans.{Scanner, opened, through, finishes, moved, scannerFrom}
-use Rattle.shift_and.specs.Automaton.{Automaton, stepOn, openingState, accepts, stateAfter, endsIn}
 use Rattle.shift_and.specs.Masks.{Encodes}
-use Rattle.shift_and.proofs.Bridge.{words-are-plain}
+use Rattle.shift_and_wide.specs.declared.Wide.{Wide}
+use Rattle.shift_and_wide.specs.Stepping.{WideAutomaton, numbered, stepOnW, openingStateW, acceptsW, stateAfterW, endsInW}
+use Rattle.shift_and_wide.proofs.Instances.{Fits, wide-is-plain}
 use Rattle.rule_table.specs.Tables.{tableOf}
-use Rattle.rule_table.proofs.FillLaws.{long-entries}
-use Rattle.rule_table.proofs.Encoded.{table-entry}
+use Rattle.rule_table.proofs.Encoded.{rule-bytes, table-long, table-fits, table-encodes}
 use Rattle.scan_piece.specs.Feeding.{textOf, tailOf}
-use Rattle.rule_part.specs.RulePart.{tableLength, automatonOfRule, stateOf}
+use Rattle.rule_part.specs.RulePart.{automatonOfRule, stateOf}
 use Rattle.rule_part.proofs.RuleFields.{rule-possible, fields-automaton, fields-state}
 use Rattle.plan_part.specs.PlanPart.{finishedOf, rawOf, decodedOf, heldBytesOf, planFields, planRefusal}
 use Rattle.plan_part.proofs.Readback.{fields-long as plan-fields-long, fields-finished, fields-raw, fields-decoded, fields-held, fields-possible}
@@ -77,26 +77,26 @@ flagNumber : Bool → ℕ
 flagNumber true = 1
 flagNumber false = 0
 
-module _ (A : Automaton) (some : 1 ≤ A .top) (few : A .top ≤ positionLimit) where
-  step : ℕ → ℕ → ℕ
-  step d c = stepOn A 1 d c
+module _ (A : WideAutomaton) (some : 1 ≤ A .top) (few : A .top ≤ positionLimit) where
+  step : Wide → ℕ → Wide
+  step d c = stepOnW A d c
 
-  Top : ℕ → Bool
-  Top d = accepts A d
+  Top : Wide → Bool
+  Top d = acceptsW A d
 
-  runs : (out : List ℕ) (d : ℕ) → stateAfter A d out ≡ Scans.run formLimit ℕ step Top d out
-  unfolding stateAfter step
+  runs : (out : List ℕ) (d : Wide) → stateAfterW A d out ≡ Scans.run formLimit Wide step Top d out
+  unfolding stateAfterW step
   runs [] d = refl
   runs (c ∷ out) d = runs out (step d c)
 
-  ends-run : (out : List ℕ) (d at : ℕ) → endsIn A d at out ≡ Scans.endsIn formLimit ℕ step Top d at out
-  unfolding endsIn step Top
+  ends-run : (out : List ℕ) (d : Wide) (at : ℕ) → endsInW A d at out ≡ Scans.endsIn formLimit Wide step Top d at out
+  unfolding endsInW step Top
   ends-run [] d at = refl
   ends-run (c ∷ out) d at =
-      ap₂ (λ (i : ℕ) (l : List ℕ). consIf (accepts A (step d c)) i l) (add-one at)
-      (ends-run out (step d c) (at + 1) ∙ ap (λ (i : ℕ). Scans.endsIn formLimit ℕ step Top (step d c) i out) (add-one at))
+      ap₂ (λ (i : ℕ) (l : List ℕ). consIf (acceptsW A (step d c)) i l) (add-one at)
+      (ends-run out (step d c) (at + 1) ∙ ap (λ (i : ℕ). Scans.endsIn formLimit Wide step Top (step d c) i out) (add-one at))
 
-  record Mirrors (s : List ℕ) (k : Scanner ℕ) : Type 0 where
+  record Mirrors (s : List ℕ) (k : Scanner Wide) : Type 0 where
     long : length s ≡ scanLength
     automaton : automatonIn s ≡ A
     possible-is : possible s ≡ true
@@ -135,7 +135,7 @@ module _ (A : Automaton) (some : 1 ≤ A .top) (few : A .top ≤ positionLimit) 
   after-sum s a (feed piece n) = omega (arith, no-longer (heldIn s ++ piece), length-append (heldIn s) piece)
   after-sum s a (finish n) = omega arith
 
-  finished-is : (c : Call) → finishedAfter c ≡ flagNumber (finishes formLimit ℕ step Top c)
+  finished-is : (c : Call) → finishedAfter c ≡ flagNumber (finishes formLimit Wide step Top c)
   unfolding flagNumber
   finished-is (feed piece n) = refl
   finished-is (finish n) = refl
@@ -149,17 +149,17 @@ module _ (A : Automaton) (some : 1 ≤ A .top) (few : A .top ≤ positionLimit) 
   flag-test true = refl
   flag-test false = refl
 
-  module _ (s : List ℕ) (k : Scanner ℕ) (x : Mirrors s k) (c : Call) where
-    mirror-moved : Bytes (pieceOf c) → rawIn s + length (pieceOf c) ≤ textLimit → Mirrors (after s c) (moved formLimit ℕ step Top k c)
+  module _ (s : List ℕ) (k : Scanner Wide) (x : Mirrors s k) (c : Call) where
+    mirror-moved : Bytes (pieceOf c) → rawIn s + length (pieceOf c) ≤ textLimit → Mirrors (after s c) (moved formLimit Wide step Top k c)
     mirror-moved b limit =
         let out = through formLimit (k .held) c .out in
-        let D = stateAfter (automatonIn s) (stateIn s) (outOf s c) in
+        let D = stateAfterW (automatonIn s) (stateIn s) (outOf s c) in
         let F = finishedAfter c in
         let R = rawIn s + length (pieceOf c) in
         let C = decodedIn s + length (outOf s c) in
         let H = tailAfter s c in
         let short = after-few s c in
-        let top : positionsIn s ≡ A .top = ap (λ (q : Automaton). q .top) (x .automaton) in
+        let top : positionsIn s ≡ A .top = ap (λ (q : WideAutomaton). q .top) (x .automaton) in
         let by = after-bytes s (x .bytes) c b in
         let sum = after-sum s (x .sum) c in
         let o = out-is s (k .held) (x .held) c in
@@ -172,8 +172,8 @@ module _ (A : Automaton) (some : 1 ≤ A .top) (few : A .top ≤ positionLimit) 
           possible-is = written-possible s (x .long) D F R C H short (bytes-below H by) (after-tail s c) (omega (arith, top)) (omega (arith, top)) (finished-one c) limit sum;
           state =
               written-state s (x .long) D F R C H
-              ∙ ap (λ (a : Automaton). stateAfter a (stateIn s) (outOf s c)) (x .automaton)
-              ∙ ap₂ (λ (d : ℕ) (out : List ℕ). stateAfter A d out) (x .state) o
+              ∙ ap (λ (a : WideAutomaton). stateAfterW a (stateIn s) (outOf s c)) (x .automaton)
+              ∙ ap₂ (λ (d : Wide) (out : List ℕ). stateAfterW A d out) (x .state) o
               ∙ runs out (k .state);
           finished = written-finished s (x .long) D F R C H ∙ finished-is c;
           raw = r ∙ ap (λ (i : ℕ). i + length (pieceOf c)) (x .raw);
@@ -183,11 +183,11 @@ module _ (A : Automaton) (some : 1 ≤ A .top) (few : A .top ≤ positionLimit) 
           sum = omega (arith, ap length hd);
         }
 
-    ends-are : endsOf s c ≡ Scans.endsIn formLimit ℕ step Top (k .state) (k .decoded) (through formLimit (k .held) c .out)
+    ends-are : endsOf s c ≡ Scans.endsIn formLimit Wide step Top (k .state) (k .decoded) (through formLimit (k .held) c .out)
     ends-are =
-        ap (λ (a : Automaton). endsIn a (stateIn s) (decodedIn s) (outOf s c)) (x .automaton)
-        ∙ ap₂ (λ (d at : ℕ). endsIn A d at (outOf s c)) (x .state) (x .decoded)
-        ∙ ap (endsIn A (k .state) (k .decoded)) (out-is s (k .held) (x .held) c)
+        ap (λ (a : WideAutomaton). endsInW a (stateIn s) (decodedIn s) (outOf s c)) (x .automaton)
+        ∙ ap₂ (λ (d : Wide) (at : ℕ). endsInW A d at (outOf s c)) (x .state) (x .decoded)
+        ∙ ap (endsInW A (k .state) (k .decoded)) (out-is s (k .held) (x .held) c)
         ∙ ends-run (through formLimit (k .held) c .out) (k .state) (k .decoded)
 
     numbers : numberOf s c ≡ refusal formLimit (k .finished) (k .taken) c
@@ -210,23 +210,23 @@ module _ (A : Automaton) (some : 1 ≤ A .top) (few : A .top ≤ positionLimit) 
   run-suc : (s : List ℕ) (c : Call) (cs : List Call) (n : ℕ) → numberOf s c ≡ suc n → runFrom s (c ∷ cs) ≡ refused (suc n) ∷ runFrom s cs
   run-suc s c cs n q = rw (q, runFrom)
 
-  scanner-zero : (k : Scanner ℕ) (c : Call) (cs : List Call) → refusal formLimit (k .finished) (k .taken) c ≡ 0
-      → scannerFrom formLimit ℕ step Top k (c ∷ cs) ≡ reported (Scans.endsIn formLimit ℕ step Top (k .state) (k .decoded) (through formLimit (k .held) c .out)) ∷ scannerFrom formLimit ℕ step Top (moved formLimit ℕ step Top k c) cs
+  scanner-zero : (k : Scanner Wide) (c : Call) (cs : List Call) → refusal formLimit (k .finished) (k .taken) c ≡ 0
+      → scannerFrom formLimit Wide step Top k (c ∷ cs) ≡ reported (Scans.endsIn formLimit Wide step Top (k .state) (k .decoded) (through formLimit (k .held) c .out)) ∷ scannerFrom formLimit Wide step Top (moved formLimit Wide step Top k c) cs
   scanner-zero k c cs q = rw (q, scannerFrom)
 
-  scanner-suc : (k : Scanner ℕ) (c : Call) (cs : List Call) (n : ℕ) → refusal formLimit (k .finished) (k .taken) c ≡ suc n
-      → scannerFrom formLimit ℕ step Top k (c ∷ cs) ≡ refused (suc n) ∷ scannerFrom formLimit ℕ step Top k cs
+  scanner-suc : (k : Scanner Wide) (c : Call) (cs : List Call) (n : ℕ) → refusal formLimit (k .finished) (k .taken) c ≡ suc n
+      → scannerFrom formLimit Wide step Top k (c ∷ cs) ≡ refused (suc n) ∷ scannerFrom formLimit Wide step Top k cs
   scanner-suc k c cs n q = rw (q, scannerFrom)
 
-  runs-agree : (cs : List Call) (s : List ℕ) (k : Scanner ℕ) → PiecesAreBytes cs → Mirrors s k → runFrom s cs ≡ scannerFrom formLimit ℕ step Top k cs
+  runs-agree : (cs : List Call) (s : List ℕ) (k : Scanner Wide) → PiecesAreBytes cs → Mirrors s k → runFrom s cs ≡ scannerFrom formLimit Wide step Top k cs
   runs-agree [] s k b x = refl
   runs-agree (c ∷ cs) s k b x = go (refusal formLimit (k .finished) (k .taken) c) refl (λ s k. runs-agree cs s k (b .1))
     where
-      go : (r : ℕ) → refusal formLimit (k .finished) (k .taken) c ≡ r → ((s : List ℕ) (k : Scanner ℕ) → Mirrors s k → runFrom s cs ≡ scannerFrom formLimit ℕ step Top k cs)
-          → runFrom s (c ∷ cs) ≡ scannerFrom formLimit ℕ step Top k (c ∷ cs)
+      go : (r : ℕ) → refusal formLimit (k .finished) (k .taken) c ≡ r → ((s : List ℕ) (k : Scanner Wide) → Mirrors s k → runFrom s cs ≡ scannerFrom formLimit Wide step Top k cs)
+          → runFrom s (c ∷ cs) ≡ scannerFrom formLimit Wide step Top k (c ∷ cs)
       go zero q ih =
           run-zero s c cs (numbers s k x c ∙ q)
-          ∙ ap₂ (λ (a : List ℕ) (l : List Answer). reported a ∷ l) (ends-are s k x c) (ih (after s c) (moved formLimit ℕ step Top k c) (mirror-moved s k x c (b .0) (within s k x c q)))
+          ∙ ap₂ (λ (a : List ℕ) (l : List Answer). reported a ∷ l) (ends-are s k x c) (ih (after s c) (moved formLimit Wide step Top k c) (mirror-moved s k x c (b .0) (within s k x c q)))
           ∙ sym (scanner-zero k c cs q)
       go (suc n) q ih =
           run-suc s c cs n (numbers s k x c ∙ q)
@@ -246,22 +246,22 @@ module _ (ps : List Position) where
 
   opening-automaton : automatonOfRule (openingRule ps) ≡ automatonFor ps
   unfolding openingRule
-  opening-automaton = fields-automaton (tableOf ps) (masksFor ps) (openingState (automatonFor ps)) (long-entries ps tableLength 0)
+  opening-automaton = fields-automaton (tableOf ps) (masksFor ps) (openingStateW (automatonFor ps)) (table-long ps)
 
-  opening-state : stateOf (openingRule ps) ≡ openingState (automatonFor ps)
+  opening-state : stateOf (openingRule ps) ≡ openingStateW (automatonFor ps)
   unfolding openingRule
-  opening-state = fields-state (tableOf ps) (masksFor ps) (openingState (automatonFor ps)) (long-entries ps tableLength 0)
+  opening-state = fields-state (tableOf ps) (masksFor ps) (openingStateW (automatonFor ps)) (table-long ps)
 
   module _ (some : 1 ≤ length ps) (few : length ps ≤ positionLimit) where
     opening-possible : possible (openingOf ps) ≡ true
     unfolding openingOf
     opening-possible =
-        let top = ap (λ (a : Automaton). a .top) opening-automaton in
+        let top = ap (λ (a : WideAutomaton). a .top) opening-automaton in
         value-possible (openingRule ps) (planFields 0 0 0 []) (opening-long ps) (plan-fields-long 0 0 0 [])
         (rule-possible (openingRule ps) (omega arith) (omega arith))
         (fields-possible 0 0 0 [] (omega arith) (λ i. omega arith) refl (omega arith) (omega arith) (omega arith))
 
-    opening-mirrors : Mirrors (automatonFor ps) some few (openingOf ps) (opened (openingState (automatonFor ps)))
+    opening-mirrors : Mirrors (automatonFor ps) some few (openingOf ps) (opened (openingStateW (automatonFor ps)))
     unfolding flagNumber
     opening-mirrors =
         let none : heldIn (openingOf ps) ≡ [] = ap heldBytesOf opening-plan ∙ fields-held 0 0 0 [] (omega arith) (λ i. omega arith) in
@@ -279,12 +279,12 @@ module _ (ps : List Position) where
           sum = omega (arith, ap length none);
         }
 
-    from-opening : Encodes (automatonFor ps) ps → (cs : List Call) → PiecesAreBytes cs
+    from-opening : Fits (automatonFor ps) → Encodes (numbered (automatonFor ps)) ps → (cs : List Call) → PiecesAreBytes cs
         → runFrom (openingOf ps) cs ≡ scanFrom formLimit ps nothingKept cs
     unfolding step Top
-    from-opening e cs b =
-        runs-agree (automatonFor ps) some few cs (openingOf ps) (opened (openingState (automatonFor ps))) b opening-mirrors
-        ∙ words-are-plain (automatonFor ps) ps e formLimit cs
+    from-opening f e cs b =
+        runs-agree (automatonFor ps) some few cs (openingOf ps) (opened (openingStateW (automatonFor ps))) b opening-mirrors
+        ∙ wide-is-plain (automatonFor ps) f ps e formLimit cs
 
 -- What an opening with number 0 was of, and what it left.
 pub record OpenedWith (flag : ℕ) (rule s′ : List ℕ) : Type 0 where
@@ -317,13 +317,7 @@ module _ (flag : ℕ) (rule : List ℕ) (bytes : Bytes rule) (cs : List Call) (p
       let q : positions (foldFlag flag) es ≡ ps = sym (ap (positionsBy (foldFlag flag)) e) in
       ap (λ (ps : List Position). runFrom (openingOf ps) cs) q
       ∙ from-opening ps (ok .some) (ok .few)
-      (record {
-        fits = omega (arith, ok .few);
-        is-table = table-entry flag rule false (tableOf ps) (record { long = long-entries ps tableLength 0; is = refl });
-        is-repeats = refl;
-        is-optional = refl;
-        is-top = refl;
-      }) cs pieces
+      (table-fits ps (rule-bytes flag rule false)) (table-encodes ps (rule-bytes flag rule false) (ok .few)) cs pieces
 
   -- "every answer, refusal or ends": from what an accepted opening left, each call handed what the one before it left.
   pub scan-is-plain : (s : List ℕ) (r : Opened) (s′ : List ℕ) → OpenIs flag rule s r s′ → r .number ≡ 0 → runFrom s′ cs ≡ plainScan flag rule cs

@@ -3,7 +3,7 @@
 use mathlib.Core.Path.{_≡_}
 use mathlib.Core.Bool.{cond}
 use mathlib.Core.List.{List, [], _∷_, _++_}
-use Prim.Native.Nat.{ℕ, zero, suc, _+_, _≤_}
+use Prim.Native.Nat.{ℕ, zero, suc, _+_}
 use lib.Dec.{T, eqb}
 use lib.ListN.{length}
 use Rattle.model.specs.Occurrence.{all}
@@ -13,21 +13,15 @@ use Rattle.model.specs.PlainScan as Plain
 use Rattle.model.specs.PlainScan.{Call, feed, finish, pieceOf, listOf}
 use Rattle.answers.specs.declared.Answer.{Answer}
 use Rattle.answers.specs.Answers.{refusing, counting}
-use Rattle.shift_and.specs.Automaton.{stateAfter, endsIn}
-use Rattle.scan_piece.specs.declared.Progress.{Progress}
-use Rattle.scan_piece.specs.declared.Fed.{Fed}
-use Rattle.scan_piece.specs.Feeding.{textOf, tailOf, Stepped, Holds}
-use Rattle.scan_value.specs.Value.{automatonIn, stateIn, rawIn, decodedIn, heldCountIn, heldIn, written, numberFor}
+use Rattle.shift_and_wide.specs.Stepping.{stateAfterW, endsInW}
+use Rattle.scan_piece.specs.Feeding.{textOf, tailOf}
+use Rattle.scan_value.specs.Value.{automatonIn, stateIn, rawIn, decodedIn, heldIn, written, numberFor}
 
 -- ---- one call on scan value s
 
 -- the refusal's number, or 0
 abbrev pub numberOf : (s : List ℕ) → Call → ℕ
 numberOf s c = numberFor s (length (pieceOf c)) (listOf c)
-
--- where it stands before its first byte
-abbrev pub startOf : (s : List ℕ) → Progress
-startOf s = record { d = stateIn s; at = decodedIn s; count = 0 }
 
 -- What it lets out: a feed the text of the held bytes and the piece, "the finish" the held bytes, as they came.
 abbrev pub outOf : (s : List ℕ) → Call → List ℕ
@@ -45,25 +39,14 @@ finishedAfter (finish n) = 1
 
 -- The ends that it reports: document 01's step on each byte let out.
 abbrev pub endsOf : (s : List ℕ) → Call → List ℕ
-endsOf s c = endsIn (automatonIn s) (stateIn s) (decodedIn s) (outOf s c)
+endsOf s c = endsInW (automatonIn s) (stateIn s) (decodedIn s) (outOf s c)
 
 -- The scan value that it leaves.
 abbrev pub after : (s : List ℕ) → Call → List ℕ
 after s c =
-    written s (stateAfter (automatonIn s) (stateIn s) (outOf s c)) (finishedAfter c) (rawIn s + length (pieceOf c)) (decodedIn s + length (outOf s c)) (tailAfter s c)
+    written s (stateAfterW (automatonIn s) (stateIn s) (outOf s c)) (finishedAfter c) (rawIn s + length (pieceOf c)) (decodedIn s + length (outOf s c)) (tailAfter s c)
 
 -- ---- contracts
-
--- `step_piece`: a feed's step over what it lets out, from the value's state, and what it holds back
-pub record PieceStepped (s piece ends : List ℕ) (r : Fed) (ends′ : List ℕ) : Type 0 where
-  pub steps : Stepped (automatonIn s) (startOf s) (textOf (heldIn s ++ piece)) ends (r .state) ends′
-  pub held : Holds (r .held) (tailOf (heldIn s ++ piece))
-  pub few : length (textOf (heldIn s ++ piece)) + r .held .len ≤ heldCountIn s + length piece
-
--- `step_tail`: a finish's
-pub record TailStepped (s ends : List ℕ) (r : Progress) (ends′ : List ℕ) : Type 0 where
-  pub steps : Stepped (automatonIn s) (startOf s) (heldIn s) ends r ends′
-  pub few : length (heldIn s) ≤ heldCountIn s
 
 -- An accepted call: the answer, the scan value and the list at exit.
 pub record Taken (s : List ℕ) (c : Call) (ends : List ℕ) (r : Answer) (s′ ends′ : List ℕ) : Type 0 where

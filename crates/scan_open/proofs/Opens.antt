@@ -15,13 +15,11 @@ use Rattle.model.specs.NumberedAnswers.{positionsBy, rulePositions}
 use Rattle.model.proofs.LentLists.{put-rest}
 use Rattle.answers.specs.declared.Opened.{Opened}
 use Rattle.answers.specs.Answers.{refusingRule, acceptingRule}
-use Rattle.shift_and.specs.Automaton.{openingState}
-use Rattle.shift_and_step.specs.Stepping.{automatonOf}
+use Rattle.shift_and_wide.specs.Stepping.{wideAutomatonOf, openingStateW}
 use Rattle.rule_parser.specs.declared.Prepared.{Prepared}
 use Rattle.rule_parser.specs.Preparing.{answerOf, Prepares}
 use Rattle.rule_table.specs.Tables.{tableOf, Fillable, Filled}
-use Rattle.rule_table.proofs.FillLaws.{long-entries}
-use Rattle.rule_table.proofs.Encoded.{is-refused, is-accepted, is-answer, may-fill}
+use Rattle.rule_table.proofs.Encoded.{table-long, is-refused, is-accepted, is-answer, may-fill}
 use Rattle.rule_part.specs.RulePart.{tableLength, ruleLength, entriesOf, ruleFields, begun}
 use Rattle.rule_part.proofs.RuleFields.{fields-long}
 use Rattle.piece_decoder.specs.declared.held.Held.{Held}
@@ -54,7 +52,7 @@ module _ (flag : ℕ) (rule : List ℕ) (p : Prepared) (r : List ℕ) (q : Opena
   rule-opened r′ e =
       let ps = rulePositions (foldFlag flag) rule in
       e
-      ∙ ap₂ (λ (u : List ℕ) (y : Prepared). ruleFields u (record { repeats = y .repeats; optional = y .optional; top = y .positions }) (openingState (automatonOf u (record { repeats = y .repeats; optional = y .optional; top = y .positions }))))
+      ∙ ap₂ (λ (u : List ℕ) (y : Prepared). ruleFields u (record { repeats = y .repeats; optional = y .optional; top = y .positions }) (openingStateW (wideAutomatonOf u (record { repeats = y .repeats; optional = y .optional; top = y .positions }))))
       (take-at t (drop tableLength r) tableLength (x .long) ∙ x .is) (prepared-is flag rule p ruleLength r q)
 
   pub rule-same : (r′ : List ℕ) → r′ ≡ begun (t ++ drop tableLength r) (record { repeats = p .repeats; optional = p .optional; top = p .positions }) → length r′ ≡ length r
@@ -65,7 +63,7 @@ module _ (flag : ℕ) (rule : List ℕ) (p : Prepared) (r : List ℕ) (q : Opena
 
 pub opening-long : (ps : List Position) → length (openingRule ps) ≡ ruleLength
 unfolding openingRule
-opening-long ps = fields-long (tableOf ps) (masksFor ps) _ (long-entries ps tableLength 0)
+opening-long ps = fields-long (tableOf ps) (masksFor ps) _ (table-long ps)
 
 pub value-length : (ps : List Position) → length (openingOf ps) ≡ scanLength
 unfolding openingOf

@@ -11,10 +11,10 @@ use Rattle.model.specs.RuleText.{foldFlag, positions}
 use Rattle.model.specs.NumberedAnswers.{Parsed, refused, accepted, parse}
 use Rattle.answers.specs.declared.Opened.{Opened}
 use Rattle.answers.specs.Answers.{refusingRule, acceptingRule}
-use Rattle.shift_and.specs.Automaton.{Automaton, openingState}
 use Rattle.shift_and.specs.Masks.{optionalMask, repeatsMask}
-use Rattle.shift_and_step.specs.declared.Masks.{Masks}
-use Rattle.shift_and_step.specs.Stepping.{automatonOf}
+use Rattle.shift_and_wide.specs.declared.WideMasks.{WideMasks}
+use Rattle.shift_and_wide.specs.Wides.{wordsOf}
+use Rattle.shift_and_wide.specs.Stepping.{WideAutomaton, wideAutomatonOf, openingStateW}
 use Rattle.rule_parser.specs.declared.Prepared.{Prepared}
 use Rattle.rule_parser.specs.Preparing.{Prepares}
 use Rattle.rule_table.specs.Tables.{tableOf}
@@ -23,15 +23,15 @@ use Rattle.plan_part.specs.PlanPart.{planFields}
 use Rattle.scan_value.specs.Value.{scanLength}
 
 -- a rule's masks, and its automaton
-abbrev pub masksFor : List Position → Masks
-masksFor ps = record { repeats = repeatsMask ps; optional = optionalMask ps; top = length ps }
+abbrev pub masksFor : List Position → WideMasks
+masksFor ps = record { repeats = wordsOf (repeatsMask ps); optional = wordsOf (optionalMask ps); top = length ps }
 
-abbrev pub automatonFor : List Position → Automaton
-automatonFor ps = automatonOf (tableOf ps) (masksFor ps)
+abbrev pub automatonFor : List Position → WideAutomaton
+automatonFor ps = wideAutomatonOf (tableOf ps) (masksFor ps)
 
 -- The scan value that an accepted rule opens with: its table, masks and count of positions, the opening D; not finished, no bytes taken, none held.
 unfoldable pub openingRule : List Position → List ℕ
-openingRule ps = ruleFields (tableOf ps) (masksFor ps) (openingState (automatonFor ps))
+openingRule ps = ruleFields (tableOf ps) (masksFor ps) (openingStateW (automatonFor ps))
 
 unfoldable pub openingOf : List Position → List ℕ
 openingOf ps = openingRule ps ++ planFields 0 0 0 []

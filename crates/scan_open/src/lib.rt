@@ -7,7 +7,7 @@ ghost use Rattle.scan_value.specs.Value.{scanLength};
 ghost use Rattle.scan_open.specs.Opening.{Openable, openingRule, openingOf, OpenIs};
 use answers::Opened;
 use rule_parser::Prepared;
-use shift_and_step::Masks;
+use shift_and_wide::WideMasks;
 
 // The rule's part: its table, its masks and the state before the first byte.
 fn open_rule(rule: &[u8], fold: u32, p: Prepared, part: &mut [u64])
@@ -21,10 +21,13 @@ fn open_rule(rule: &[u8], fold: u32, p: Prepared, part: &mut [u64])
         &mut part[..rule_part::TABLE],
         false,
     );
-    let masks = Masks {
-        repeats: p.repeats,
-        optional: p.optional,
-        top: p.positions as u64,
+    let repeats = p.repeats;
+    let optional = p.optional;
+    let top = p.positions as u64;
+    let masks = WideMasks {
+        repeats: repeats,
+        optional: optional,
+        top: top,
     };
     rule_part::begin(part, masks);
 }

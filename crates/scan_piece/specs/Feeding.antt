@@ -21,7 +21,7 @@ textOf raw = letOut formLimit raw
 unfoldable pub tailOf : List ℕ → List ℕ
 tailOf raw = heldTail formLimit raw
 
--- `step_held`, `step_code_point`: from state g over some decoded bytes
+-- `step_text`, `step_code_point`: from state g over some decoded bytes
 pub record Stepped (A : Automaton) (g : Progress) (text ends : List ℕ) (r : Progress) (ends′ : List ℕ) : Type 0 where
   pub state : r .d ≡ stateAfter A (g .d) text
   pub place : r .at ≡ g .at + length text

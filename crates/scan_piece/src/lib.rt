@@ -1,5 +1,5 @@
 // A piece of a plan, after held bytes: what it lets out is decoded and stepped over, and what it holds
-// back is kept. At any table and masks.
+// back is kept. At any table and masks, in one word.
 ghost use Prim.Native.Nat.{_+_, _<_, _≤_, _^_};
 ghost use lib.ListN.{length};
 ghost use Rattle.shift_and_step.specs.Stepping.{automatonOf, TableFits};
@@ -22,7 +22,7 @@ pub struct Progress {
 }
 
 // Steps over `text` by a prefilter, and stores its ends after those stored.
-fn step_text(
+pub fn step_text(
     table: &[u64],
     masks: Masks,
     filter: Prefilter,
@@ -45,23 +45,6 @@ fn step_text(
         at: at,
         count: stored,
     }
-}
-
-// The same by a prefilter chosen for this text alone.
-pub fn step_held(
-    table: &[u64],
-    masks: Masks,
-    g: Progress,
-    text: &[u8],
-    ends: &mut [u32],
-) -> Progress
-    requires { ⌜ TableFits (now table) masks ⌝ }
-    requires { ⌜ g .count + length (now text) ≤ length (now ends) ⌝ }
-    requires { ⌜ g .at + length (now text) < 2 ^ 32 ⌝ }
-    ensures { λ r. ⌜ Stepped (automatonOf (now (table .entry)) masks) g (now (text .entry)) (now (ends .entry)) r (now (ends .exit)) ⌝ }
-{
-    let filter = prefilter::choose(table, masks.repeats, masks.optional, masks.top, text.len());
-    step_text(table, masks, filter, g, text, ends)
 }
 
 // Steps over the UTF-8 bytes of a code point.
@@ -260,10 +243,11 @@ fn feed_held(
     }
 }
 
-// The same, with a prefilter for the rule. Mostly nothing is held.
+// The same. Mostly nothing is held.
 pub fn feed_bytes(
     table: &[u64],
     masks: Masks,
+    filter: Prefilter,
     g: Progress,
     h: Held,
     piece: &[u8],
@@ -273,9 +257,9 @@ pub fn feed_bytes(
     requires { ⌜ HeldFine h ⌝ }
     requires { ⌜ g .count + h .len + length (now piece) ≤ length (now ends) ⌝ }
     requires { ⌜ g .at + h .len + length (now piece) < 2 ^ 32 ⌝ }
+    requires { ⌜ PrefilterSound (now table) (masks .repeats) (masks .optional) (masks .top) filter ⌝ }
     ensures { λ r. ⌜ FedIs (automatonOf (now (table .entry)) masks) g h (now (piece .entry)) (now (ends .entry)) r (now (ends .exit)) ⌝ }
 {
-    let filter = prefilter::choose(table, masks.repeats, masks.optional, masks.top, piece.len());
     let n = h.len;
     if n == 0 {
         return feed_rest(table, masks, filter, g, piece, 0, ends);

@@ -2,7 +2,7 @@
 use mathlib.Core.Path.{_≡_, sym, ap, subst, _∙_}
 use mathlib.Core.Bool.{Bool, true, false, true≢false}
 use mathlib.Core.List.{List}
-use Prim.Native.Nat.{ℕ, _+_, _-_}
+use Prim.Native.Nat.{ℕ, _+_, _-_, _<_}
 use native.Mathlib.Omega.{arith}
 use lib.ListN.{length, drop, getD, length-drop}
 use lib.Seq.{take-all, getD-take, getD-drop, length-take-le}
@@ -10,9 +10,11 @@ use borrow.Rule.Slice.PartMut.{midOf}
 use borrow.Author.Tests.{eq-eqb, ne-eqb}
 use Rattle.model.specs.RefusalNumbers.{impossible}
 use Rattle.piece_decoder.specs.declared.held.Held.{Held}
-use Rattle.rule_part.specs.RulePart.{ruleLength, stateAt, RulePossibleIs}
+use Rattle.shift_and_wide.specs.declared.Wide.{Wide}
+use Rattle.shift_and_wide.proofs.Wides.{same}
+use Rattle.rule_part.specs.RulePart.{repeatsAt, optionalAt, positionsAt, ruleLength, stateAt, wordsAt, RulePossibleIs}
 use Rattle.plan_part.specs.PlanPart.{planLength, rawAt, decodedAt, LoadFine, LoadIs, PlanPossible, PlanPossibleIs, PlanRefusedIs}
-use Rattle.scan_value.specs.Value.{scanLength, ruleOf, planOf, stateIn, rawIn, decodedIn, possible, Possible, PossibleIs, numberFor, RefusedIs}
+use Rattle.scan_value.specs.Value.{scanLength, ruleOf, planOf, lowMasksIn, stateIn, rawIn, decodedIn, possible, Possible, PossibleIs, numberFor, RefusedIs}
 
 -- ---- the two parts
 
@@ -33,8 +35,15 @@ module _ (s : List ℕ) (long : length s ≡ scanLength) where
 -- ---- a field by itself
 
 module _ (s : List ℕ) where
-  pub state-read : getD s stateAt 0 ≡ stateIn s
-  state-read = sym (getD-take ruleLength s stateAt 0 (omega arith))
+  pub state-read : (d : Wide) → d ≡ wordsAt stateAt s → d ≡ stateIn s
+  state-read d e =
+      let at : (k : ℕ) → k < ruleLength → getD s k 0 ≡ getD (ruleOf s) k 0 = λ k h. sym (getD-take ruleLength s k 0 h) in
+      e ∙ same _ _ _ _ _ _ _ _ (at stateAt (omega arith)) (at (stateAt + 1) (omega arith)) (at (stateAt + 2) (omega arith)) (at (stateAt + 3) (omega arith))
+
+  pub low-masks-read : record { repeats = getD s repeatsAt 0; optional = getD s optionalAt 0; top = getD s positionsAt 0 } ≡ lowMasksIn s
+  low-masks-read =
+      let at : (k : ℕ) → k < ruleLength → getD s k 0 ≡ getD (ruleOf s) k 0 = λ k h. sym (getD-take ruleLength s k 0 h) in
+      rw (at repeatsAt (omega arith), at optionalAt (omega arith), at positionsAt (omega arith))
 
   pub raw-read : getD s (ruleLength + rawAt) 0 ≡ rawIn s
   raw-read = sym (getD-drop ruleLength s rawAt 0)

@@ -4,15 +4,17 @@ use mathlib.Core.Bool.{true}
 use mathlib.Core.List.{List, _++_}
 use Prim.Native.Nat.{ℕ, _+_, _-_, _≤_, _<_}
 use native.Mathlib.Omega.{arith}
-use lib.ListN.{length, getD, set, length-append, length-set}
-use lib.Seq.{take-at, drop-at, take-set-lt}
+use lib.ListN.{length, take, getD, length-append}
+use lib.Seq.{take-at, drop-at, take-take}
 use borrow.Rule.Slice.PartMut.{putMid, midOf}
 use borrow.Author.Tests.{eq-eqb}
 use Rattle.model.specs.RuleText.{positionLimit}
 use Rattle.model.specs.NumberedAnswers.{textLimit}
 use Rattle.model.specs.References.{formLimit, heldMost, heldTail}
-use Rattle.model.proofs.LentLists.{put-rest}
-use Rattle.rule_part.specs.RulePart.{ruleLength, stateAt, withState, automatonOfRule, stateOf, possibleRule}
+use Rattle.model.proofs.LentLists.{put-rest, front-sets}
+use Rattle.shift_and_wide.specs.declared.Wide.{Wide}
+use Rattle.shift_and_wide.specs.Wides.{words}
+use Rattle.rule_part.specs.RulePart.{ruleLength, stateAt, WordsPut, withState, automatonOfRule, stateOf, possibleRule}
 use Rattle.rule_part.proofs.RuleFields.{rule-possible, state-long, state-automaton, state-count, state-is}
 use Rattle.plan_part.specs.PlanPart.{planLength, finishedOf, rawOf, decodedOf, heldBytesOf, planFields, possiblePlan}
 use Rattle.plan_part.proofs.Readback.{fields-long, fields-finished, fields-raw, fields-decoded, fields-held, fields-possible}
@@ -34,9 +36,9 @@ module _ (r p : List ℕ) (lr : length r ≡ ruleLength) (lp : length p ≡ plan
   unfolding possible
   value-possible a b = simp (eq-eqb (length (r ++ p)) scanLength value-long, value-rule, value-plan, a, b)
 
-module _ (s : List ℕ) (long : length s ≡ scanLength) (d f r c : ℕ) (h : List ℕ) where
+module _ (s : List ℕ) (long : length s ≡ scanLength) (d : Wide) (f r c : ℕ) (h : List ℕ) where
   state-part : length (withState (ruleOf s) d) ≡ ruleLength
-  state-part = state-long (ruleOf s) d ∙ rule-long s long
+  state-part = state-long (ruleOf s) d (rule-long s long) ∙ rule-long s long
 
   written-rule : ruleOf (written s d f r c h) ≡ withState (ruleOf s) d
   unfolding written
@@ -51,7 +53,7 @@ module _ (s : List ℕ) (long : length s ≡ scanLength) (d f r c : ℕ) (h : Li
   written-long = value-long (withState (ruleOf s) d) (planFields f r c h) state-part (fields-long f r c h)
 
   pub written-automaton : automatonIn (written s d f r c h) ≡ automatonIn s
-  written-automaton = ap automatonOfRule written-rule ∙ state-automaton (ruleOf s) d
+  written-automaton = ap automatonOfRule written-rule ∙ state-automaton (ruleOf s) d (rule-long s long)
 
   pub written-state : stateIn (written s d f r c h) ≡ d
   written-state = ap stateOf written-rule ∙ state-is (ruleOf s) d (rule-long s long)
@@ -74,20 +76,29 @@ module _ (s : List ℕ) (long : length s ≡ scanLength) (d f r c : ℕ) (h : Li
         → possible (written s d f r c h) ≡ true
     unfolding written
     written-possible t some most one raw sum =
-        let n = state-count (ruleOf s) d in
+        let n = state-count (ruleOf s) d (rule-long s long) in
         value-possible (withState (ruleOf s) d) (planFields f r c h) state-part (fields-long f r c h)
         (rule-possible (withState (ruleOf s) d) (omega arith) (omega arith))
         (fields-possible f r c h few b t one raw sum)
 
 -- ---- `put`: D is stored, and then the plan's part comes back written
 
-module _ (s : List ℕ) (long : length s ≡ scanLength) (d : ℕ) where
-  pub plan-after : length (midOf ruleLength (length (set s stateAt d) - ruleLength) (set s stateAt d)) ≡ planLength
-  plan-after = ap length (plan-lent (set s stateAt d) (length-set s stateAt d ∙ long)) ∙ plan-long (set s stateAt d) (length-set s stateAt d ∙ long)
+module _ (s : List ℕ) (long : length s ≡ scanLength) (d : Wide) (s₁ : List ℕ) (x : WordsPut s stateAt d s₁) where
+  long₁ : length s₁ ≡ scanLength
+  long₁ = x .long ∙ long
 
-  pub put-is : (f r c : ℕ) (h p : List ℕ) → p ≡ planFields f r c h → putMid ruleLength (length (set s stateAt d) - ruleLength) (set s stateAt d) p ≡ written s d f r c h
-  unfolding written withState
-  put-is f r c h p e = put-rest (set s stateAt d) ruleLength p ∙ ap₂ (λ (x y : List ℕ). x ++ y) (take-set-lt ruleLength s stateAt d (omega arith)) e
+  pub plan-after : length (midOf ruleLength (length s₁ - ruleLength) s₁) ≡ planLength
+  plan-after = ap length (plan-lent s₁ long₁) ∙ plan-long s₁ long₁
 
-  pub put-same : (f r c : ℕ) (h p : List ℕ) → p ≡ planFields f r c h → length (putMid ruleLength (length (set s stateAt d) - ruleLength) (set s stateAt d) p) ≡ length s
+  rule-after : take ruleLength s₁ ≡ withState (ruleOf s) d
+  unfolding withState
+  rule-after =
+      ap (take ruleLength) (x .list) ∙ front-sets s stateAt (words d) (omega arith)
+      ∙ ap (λ (l : List ℕ). l ++ words d) (sym (take-take stateAt ruleLength s (omega arith)))
+
+  pub put-is : (f r c : ℕ) (h p : List ℕ) → p ≡ planFields f r c h → putMid ruleLength (length s₁ - ruleLength) s₁ p ≡ written s d f r c h
+  unfolding written
+  put-is f r c h p e = put-rest s₁ ruleLength p ∙ ap₂ (λ (x y : List ℕ). x ++ y) rule-after e
+
+  pub put-same : (f r c : ℕ) (h p : List ℕ) → p ≡ planFields f r c h → length (putMid ruleLength (length s₁ - ruleLength) s₁ p) ≡ length s
   put-same f r c h p e = ap length (put-is f r c h p e) ∙ written-long s long d f r c h ∙ sym long

@@ -7,8 +7,10 @@ use Prim.Native.Nat.{ℕ, _+_}
 use lib.Dec.{eqb}
 use lib.ListN.{length, take, drop}
 use Rattle.model.specs.RefusalNumbers.{impossible}
-use Rattle.shift_and.specs.Automaton.{Automaton}
 use Rattle.shift_and_step.specs.declared.Masks.{Masks}
+use Rattle.shift_and_wide.specs.declared.Wide.{Wide}
+use Rattle.shift_and_wide.specs.declared.WideMasks.{WideMasks}
+use Rattle.shift_and_wide.specs.Stepping.{WideAutomaton}
 use Rattle.rule_part.specs.RulePart.{ruleLength, entriesOf, countOf, masksOf, automatonOfRule, stateOf, possibleRule, RulePossible, withState}
 use Rattle.plan_part.specs.PlanPart.{planLength, finishedOf, rawOf, decodedOf, heldCountOf, heldBytesOf, planFields, possiblePlan, PlanPossible, planRefusal, PlanAccepts}
 
@@ -30,13 +32,17 @@ tableIn s = entriesOf (ruleOf s)
 abbrev pub positionsIn : List ℕ → ℕ
 positionsIn s = countOf (ruleOf s)
 
-abbrev pub masksIn : List ℕ → Masks
+abbrev pub masksIn : List ℕ → WideMasks
 masksIn s = masksOf (ruleOf s)
 
-abbrev pub automatonIn : List ℕ → Automaton
+-- the lowest words of the masks
+abbrev pub lowMasksIn : List ℕ → Masks
+lowMasksIn s = record { repeats = masksIn s .repeats .w0; optional = masksIn s .optional .w0; top = positionsIn s }
+
+abbrev pub automatonIn : List ℕ → WideAutomaton
 automatonIn s = automatonOfRule (ruleOf s)
 
-abbrev pub stateIn : List ℕ → ℕ
+abbrev pub stateIn : List ℕ → Wide
 stateIn s = stateOf (ruleOf s)
 
 -- the plan's part: whether it has finished, the counts of raw and of decoded bytes, and the held bytes
@@ -58,12 +64,12 @@ heldIn s = heldBytesOf (planOf s)
 -- ---- how it is written
 
 -- D and the plan's part written anew
-unfoldable pub written : List ℕ → (d finished raw decoded : ℕ) (held : List ℕ) → List ℕ
+unfoldable pub written : List ℕ → (d : Wide) (finished raw decoded : ℕ) (held : List ℕ) → List ℕ
 written s d finished raw decoded held = withState (ruleOf s) d ++ planFields finished raw decoded held
 
 -- ---- impossible values
 
--- "A scan value is impossible when it has over 63 positions or none, or its held bytes, if any, are not such a tail, or decoded plus held counts exceed the
+-- "A scan value is impossible when it has over 255 positions or none, or its held bytes, if any, are not such a tail, or decoded plus held counts exceed the
 -- raw count, or, lent as a slice, it has another length than the fixed one or a number that its field cannot hold."
 unfoldable pub possible : List ℕ → Bool
 possible s = eqb (length s) scanLength && (possibleRule (ruleOf s) && possiblePlan (planOf s))

@@ -5,29 +5,34 @@ ghost use Prim.Native.Nat.{_<_, _^_};
 ghost use lib.ListN.{length};
 ghost use Rattle.piece_decoder.specs.Held.{heldOf};
 ghost use Rattle.plan_part.specs.PlanPart.{LoadIs, HeldFits};
-ghost use Rattle.scan_value.specs.Value.{scanLength, planOf, masksIn, stateIn, rawIn, decodedIn, Possible, PossibleIs, RefusedIs, written};
+ghost use Rattle.scan_value.specs.Value.{scanLength, planOf, lowMasksIn, stateIn, rawIn, decodedIn, Possible, PossibleIs, RefusedIs, written};
 use piece_decoder::held::Held;
 use shift_and_step::Masks;
+use shift_and_wide::Wide;
 
 // The rule's part comes first; the plan's begins here.
 pub const PLAN: usize = rule_part::LENGTH;
 
 pub const LENGTH: usize = PLAN + plan_part::LENGTH;
 
-// The rule's masks.
-pub fn masks_of(scan: &[u64]) -> Masks
+// The lowest words of the rule's masks.
+pub fn low_masks_of(scan: &[u64]) -> Masks
     requires { ⌜ length (now scan) ≡ scanLength ⌝ }
-    ensures { λ r. ⌜ r ≡ masksIn (now (scan .entry)) ⌝ }
+    ensures { λ r. ⌜ r ≡ lowMasksIn (now (scan .entry)) ⌝ }
 {
-    rule_part::masks_of(&scan[..PLAN])
+    Masks {
+        repeats: scan[rule_part::REPEATS],
+        optional: scan[rule_part::OPTIONAL],
+        top: scan[rule_part::POSITIONS],
+    }
 }
 
 // The state.
-pub fn state_of(scan: &[u64]) -> u64
+pub fn state_of(scan: &[u64]) -> Wide
     requires { ⌜ length (now scan) ≡ scanLength ⌝ }
     ensures { λ r. ⌜ r ≡ stateIn (now (scan .entry)) ⌝ }
 {
-    scan[rule_part::STATE]
+    rule_part::words_at(scan, rule_part::STATE)
 }
 
 // The count of raw bytes taken.
@@ -79,11 +84,11 @@ pub fn refused(scan: &[u64], piece: usize, list: usize) -> u32
 }
 
 // Writes the state and the plan's part.
-pub fn put(scan: &mut [u64], d: u64, finished: u64, raw: u64, decoded: u64, h: Held)
+pub fn put(scan: &mut [u64], d: Wide, finished: u64, raw: u64, decoded: u64, h: Held)
     requires { ⌜ length (now scan) ≡ scanLength ⌝ }
     requires { ⌜ HeldFits h ⌝ }
     ensures { λ r. ⌜ now (scan .exit) ≡ written (now (scan .entry)) d finished raw decoded (heldOf h) ⌝ }
 {
-    scan[rule_part::STATE] = d;
+    rule_part::put_words(scan, rule_part::STATE, d);
     plan_part::put(&mut scan[PLAN..], finished, raw, decoded, h);
 }

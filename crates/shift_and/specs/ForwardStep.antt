@@ -1,4 +1,4 @@
--- Document 01, "Forward step": the step on words as the machine computes it, for any masks and any state; its width, 64 there, is a parameter w.
+-- Document 01, "Forward step": the step on words as the machine computes it, for any masks and any state; its width, 256 there, is a parameter w.
 -- `Closure` of proofs/ says what its bits are. Assumes nothing.
 use Prim.Native.Nat.{ℕ, _+_, _-_, _*_, _/_, _%_, _^_}
 use mathlib.Core.Bool.{Bool}
@@ -6,11 +6,11 @@ use lib.Bits.{bitAnd, bitOr, bitXor}
 use lib.Count.{ones}
 use lib.Dec.{eqb}
 
--- "((D shifted up by one, bit 63 dropping out) and B[c]) or (D and S[c]) or 1": b is B[c], s is S[c], and k the bit that every step sets, if any.
+-- "((D shifted up by one, bit 255 dropping out) and B[c]) or (D and S[c]) or 1": b is B[c], s is S[c], and k the bit that every step sets, if any.
 unfoldable pub move : (w d b s k : ℕ) → ℕ
 move w d b s k = bitOr (bitOr (bitAnd ((d * 2) % 2 ^ w) b) (bitAnd d s)) k
 
--- "the subtraction being modulo 2^64", for a y of w bits
+-- "the subtraction being modulo 2^256", for a y of w bits
 abbrev pub wrapSub : (w x y : ℕ) → ℕ
 wrapSub w x y = (x + (2 ^ w - y)) % 2 ^ w
 

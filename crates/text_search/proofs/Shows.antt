@@ -1,5 +1,5 @@
 -- The part that is shown, for any rule, text and start. On plain values. Assumes nothing.
-use mathlib.Core.Path.{_≡_, sym, ap, _∙_}
+use mathlib.Core.Path.{_≡_, sym, ap, subst, _∙_}
 use mathlib.Core.Bool.{Bool, false, cond}
 use mathlib.Core.List.{List}
 use Prim.Native.Nat.{ℕ, _+_, _-_, _≤_, _<_}
@@ -8,42 +8,66 @@ use lib.Dec.{T}
 use lib.ListN.{length, take, drop}
 use borrow.Author.Tests.{lt-ltb, le-ltb}
 use Rattle.model.specs.Occurrence.{Position, stretch, all}
-use Rattle.model.specs.RuleText.{foldFlag, isByte, positions}
+use Rattle.model.specs.RuleText.{foldFlag, positionLimit, isByte, positions}
 use Rattle.model.specs.NumberedAnswers.{textLimit, Parsed, accepted, positionsBy, rulePositions}
 use Rattle.model.specs.WindowSearch.{emptyPart, partFrom, partBy, shown}
 use Rattle.model.proofs.Windows.{take-drop}
 use Rattle.model.proofs.Earliest.{part-empty}
+use Rattle.shift_and.specs.Automaton.{Automaton}
+use Rattle.shift_and.specs.Masks.{Encodes}
+use Rattle.shift_and_step.specs.declared.Masks.{Masks}
+use Rattle.shift_and_step.specs.Stepping.{automatonOf, TableFits}
+use Rattle.shift_and_wide.specs.Stepping.{wideAutomatonOf, numbered, WideTableFits}
 use Rattle.rule_parser.specs.declared.Prepared.{Prepared}
 use Rattle.rule_parser.specs.Preparing.{Prepares}
-use Rattle.rule_table.specs.Tables.{Fillable, Filled}
-use Rattle.rule_table.proofs.Encoded.{is-refused, is-accepted, may-fill}
-use Rattle.shift_and_step.specs.Stepping.{TableFits}
-use Rattle.window_search.specs.declared.Rule.{Rule}
+use Rattle.rule_table.specs.Tables.{PlaneFillable, PlaneFilled, Fillable, Filled}
+use Rattle.rule_table.proofs.Encoded.{is-refused, is-accepted, may-fill, may-fill-plane}
 use Rattle.answers.specs.declared.Span.{Span}
-use Rattle.window_search.specs.Searching.{onwardOf, spanOf, SpanIs}
-use Rattle.text_search.specs.Searching.{PreparedIs}
-use Rattle.text_search.specs.Showing.{Showable, PartIs, ShownIs, shownBytes, ShowsPart}
-use Rattle.text_search.proofs.Parts.{rule-is-ok, onward, on-fits}
+use Rattle.window_search.specs.Searching.{spanOf, SpanIs}
+use Rattle.wide_window_search.specs.declared.WideRule.{WideRule}
+use Rattle.text_search.specs.Searching.{PreparedIs, lowMasks}
+use Rattle.text_search.specs.Showing.{Showable, ShowableLow, PartIs, ShownIs, shownBytes, ShowsPart}
+use Rattle.text_search.proofs.Parts.{rule-is-ok, wide-onward, wide-on-fits, low-onward, low-on-fits}
 
--- ---- `span_accepted`
+-- ---- `span_low`, `span_wide`, `span_accepted`
 
 module _ (flag : ℕ) (rule : List ℕ) (p : Prepared) (len start : ℕ) (r : Showable flag rule p len start) where
-  pub shown-fillable : (table : List ℕ) → length table ≡ 256 → Fillable flag rule (p .positions) table
+  pub shown-few : p .positions ≤ positionLimit
+  shown-few = r .prepares .few
+
+  pub showable-low : p .positions < 64 → ShowableLow flag rule p len start
+  showable-low h = record { showable = r; low = h }
+
+  pub shown-fillable : (table : List ℕ) → length table ≡ 1024 → Fillable flag rule (p .positions) table
   shown-fillable table l = may-fill flag rule p (r .prepares) (r .accepted) table l
 
-  module _ (q : Rule) (x : PreparedIs p q) (forward : List ℕ) (f : Filled flag rule false forward) where
-    pub shown-fits : TableFits forward (q .forward)
-    shown-fits = on-fits flag rule p (r .prepares) (r .accepted) q x forward f
+  part-of : (F : Automaton) → Encodes F (rulePositions (foldFlag flag) rule) → T (all isByte rule) → (text : List ℕ) (y : Span) → SpanIs F text start y → PartIs flag rule text start y
+  part-of F e bytes text y i =
+      record { is = i .means (rulePositions (foldFlag flag) rule) e (rule-is-ok flag rule p (r .prepares) (r .accepted) bytes .not-empty); ordered = i .ordered; inside = i .inside }
 
-    pub part-shown : T (all isByte rule) → (text : List ℕ) (y : Span) → SpanIs (onwardOf forward q) text start y → PartIs flag rule text start y
-    part-shown bytes text y i =
-        let hp = r .prepares in
-        let z = r .accepted in
-        record {
-          is = i .means (rulePositions (foldFlag flag) rule) (onward flag rule p hp z q x forward f) (rule-is-ok flag rule p hp z bytes .not-empty);
-          ordered = i .ordered;
-          inside = i .inside;
-        }
+  module _ (q : WideRule) (x : PreparedIs p q) where
+    pub shown-fits : (forward : List ℕ) → Filled flag rule false forward → WideTableFits forward (q .forward)
+    shown-fits forward f = wide-on-fits flag rule p (r .prepares) (r .accepted) q x forward f
+
+    pub part-shown : (forward : List ℕ) → Filled flag rule false forward → T (all isByte rule) → (text : List ℕ) (y : Span)
+        → SpanIs (numbered (wideAutomatonOf forward (q .forward))) text start y → PartIs flag rule text start y
+    part-shown forward f = part-of (numbered (wideAutomatonOf forward (q .forward))) (wide-onward flag rule p (r .prepares) (r .accepted) q x forward f)
+
+module _ (flag : ℕ) (rule : List ℕ) (p : Prepared) (len start : ℕ) (r : ShowableLow flag rule p len start) where
+  pub shown-low-few : p .positions ≤ positionLimit
+  shown-low-few = r .showable .prepares .few
+
+  pub shown-low-fillable : (plane : List ℕ) → length plane ≡ 256 → PlaneFillable flag rule (p .positions) plane 0
+  shown-low-fillable plane l = may-fill-plane flag rule p (r .showable .prepares) (r .showable .accepted) plane 0 l (omega arith)
+
+  module _ (q : WideRule) (x : PreparedIs p q) (m : Masks) (e : m ≡ lowMasks (q .forward)) (forward : List ℕ) (f : PlaneFilled flag rule false forward 0) where
+    pub shown-low-fits : TableFits forward m
+    shown-low-fits = subst (TableFits forward) (sym e) (low-on-fits flag rule p (r .showable .prepares) (r .showable .accepted) q x (r .low) forward f)
+
+    pub part-low-shown : T (all isByte rule) → (text : List ℕ) (y : Span) → SpanIs (automatonOf forward m) text start y → PartIs flag rule text start y
+    part-low-shown bytes text y i =
+        part-of flag rule p len start (r .showable) (automatonOf forward (lowMasks (q .forward))) (low-onward flag rule p (r .showable .prepares) (r .showable .accepted) q x (r .low) forward f) bytes text y
+        (subst (λ (m : Masks). SpanIs (automatonOf forward m) text start y) e i)
 
 -- ---- `span`
 

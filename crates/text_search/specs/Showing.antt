@@ -1,12 +1,13 @@
 -- The part of a text that is shown. Assumes nothing.
 use mathlib.Core.Path.{_≡_}
 use mathlib.Core.List.{List}
-use Prim.Native.Nat.{ℕ, _+_, _≤_}
+use Prim.Native.Nat.{ℕ, _+_, _≤_, _<_}
 use lib.ListN.{length}
 use Rattle.model.specs.Occurrence.{stretch}
 use Rattle.model.specs.RuleText.{foldFlag}
 use Rattle.model.specs.NumberedAnswers.{rulePositions}
 use Rattle.model.specs.WindowSearch.{partFrom, shown}
+use Rattle.shift_and.specs.Automaton.{wordBits}
 use Rattle.rule_parser.specs.declared.Prepared.{Prepared}
 use Rattle.rule_parser.specs.Preparing.{Prepares}
 use Rattle.answers.specs.declared.Span.{Span}
@@ -34,6 +35,10 @@ pub record Showable (flag : ℕ) (rule : List ℕ) (p : Prepared) (len start : �
   pub prepares : Prepares flag rule p
   pub accepted : p .number ≡ 0
   pub within : start ≤ len
+
+pub record ShowableLow (flag : ℕ) (rule : List ℕ) (p : Prepared) (len start : ℕ) : Type 0 where
+  pub showable : Showable flag rule p len start
+  pub low : p .positions < wordBits
 
 pub record PartIs (flag : ℕ) (rule text : List ℕ) (start : ℕ) (r : Span) : Type 0 where
   pub is : r ≡ spanOf (partFrom (rulePositions (foldFlag flag) rule) text start)

@@ -1,14 +1,18 @@
 // The calls on a whole decoded text: the window search, and the part that is shown.
+ghost use mathlib.Core.Path.{_≡_};
 ghost use Prim.Native.Nat.{_<_, _≤_};
 ghost use lib.ListN.{length};
 ghost use Rattle.model.specs.RuleText.{positionLimit};
-ghost use Rattle.text_search.specs.Searching.{WholeIs, Ready, PreparedIs, WorkIs, SearchIs};
+ghost use Rattle.text_search.specs.Searching.{WholeIs, Ready, ReadyLow, PreparedIs, LowPreparedIs, lowMasks, FoundIs, WorkIs, SearchIs};
 ghost use denote.Ref.{ptr};
-ghost use Rattle.text_search.specs.Showing.{Showable, PartIs, ShownIs, ShowsPart};
+ghost use Rattle.text_search.specs.Showing.{Showable, ShowableLow, PartIs, ShownIs, ShowsPart};
 use answers::Answer;
 use answers::Span;
 use rule_parser::Prepared;
 use shift_and_step::Masks;
+use shift_and_wide::WideMasks;
+use wide_window_search::WideRule;
+use window_search::Found;
 use window_search::Rule;
 
 // The number of the refusal of a call on a whole text with a list of so many entries, or 0.
@@ -25,29 +29,109 @@ fn whole(text: usize, list: usize) -> u32
 }
 
 // A prepared rule's masks in both directions.
-fn rule_of(p: Prepared) -> Rule
+fn rule_of(p: Prepared) -> WideRule
     requires { ⌜ p .positions ≤ positionLimit ⌝ }
     ensures { λ r. ⌜ PreparedIs p r ⌝ }
 {
     let n = p.positions as u64;
     let size = p.shortest as usize;
-    let repeats = rule_table::mirrored(p.repeats, p.positions);
-    let optional = rule_table::mirrored(p.optional, p.positions);
-    let forward = Masks {
-        repeats: p.repeats,
-        optional: p.optional,
+    let on_repeats = p.repeats;
+    let on_optional = p.optional;
+    let repeats = rule_table::mirrored(on_repeats, p.positions);
+    let optional = rule_table::mirrored(on_optional, p.positions);
+    let forward = WideMasks {
+        repeats: on_repeats,
+        optional: on_optional,
         top: n,
     };
-    let reversed = Masks {
+    let reversed = WideMasks {
         repeats: repeats,
         optional: optional,
         top: n,
     };
-    Rule {
+    WideRule {
         shortest: size,
         forward: forward,
         reversed: reversed,
     }
+}
+
+// The lowest words of masks.
+fn low_masks(m: WideMasks) -> Masks
+    ensures { λ r. ⌜ r ≡ lowMasks m ⌝ }
+{
+    let again = m.repeats;
+    let free = m.optional;
+    Masks {
+        repeats: again.w0,
+        optional: free.w0,
+        top: m.top,
+    }
+}
+
+// The lowest words of a prepared rule's masks.
+fn low_rule_of(p: Prepared) -> Rule
+    requires { ⌜ p .positions ≤ positionLimit ⌝ }
+    ensures { λ r. ⌜ LowPreparedIs p r ⌝ }
+{
+    let q = rule_of(p);
+    let on = q.forward;
+    let back = q.reversed;
+    let forward = low_masks(on);
+    let reversed = low_masks(back);
+    Rule {
+        shortest: q.shortest,
+        forward: forward,
+        reversed: reversed,
+    }
+}
+
+// The search for a rule of at most 63 positions, in one word.
+fn search_low(rule: &[u8], fold: u32, p: Prepared, text: &[u8], starts: &mut [u32]) -> Found
+    requires { ⌜ ReadyLow fold (now rule) p (length (now text)) (length (now starts)) ⌝ }
+    ensures { λ r. ⌜ FoundIs fold (now (rule .entry)) (now (text .entry)) (now (starts .entry)) r (now (starts .exit)) ⌝ }
+{
+    let total = p.positions;
+    let low = low_rule_of(p);
+    let mut forward = [0u64; 256];
+    rule_table::fill_plane(rule, fold, total, &mut forward, false, 0);
+    let mut reversed = [0u64; 256];
+    rule_table::fill_plane(rule, fold, total, &mut reversed, true, 0);
+    let mut first = [0u64; 256];
+    let back = low.reversed;
+    window_reader::last_byte_states(&reversed, back, &mut first);
+    window_search::search_tables(&forward, &reversed, &first, low, text, starts)
+}
+
+// The same for a rule of any number of positions, in four.
+fn search_wide(rule: &[u8], fold: u32, p: Prepared, text: &[u8], starts: &mut [u32]) -> Found
+    requires { ⌜ Ready fold (now rule) p (length (now text)) (length (now starts)) ⌝ }
+    ensures { λ r. ⌜ FoundIs fold (now (rule .entry)) (now (text .entry)) (now (starts .entry)) r (now (starts .exit)) ⌝ }
+{
+    let total = p.positions;
+    let prepared = rule_of(p);
+    let mut forward = [0u64; 1024];
+    rule_table::fill(rule, fold, total, &mut forward, false);
+    let mut reversed = [0u64; 1024];
+    rule_table::fill(rule, fold, total, &mut reversed, true);
+    let mut first = [0u64; 1024];
+    let back = prepared.reversed;
+    wide_window_reader::last_byte_states(&reversed, back, &mut first);
+    wide_window_search::search_tables(&forward, &reversed, &first, prepared, text, starts)
+}
+
+// From so many positions on, a rule needs more than one word.
+const ONE_WORD: u32 = 64;
+
+// What a search finds, in one word where that does.
+fn search_found(rule: &[u8], fold: u32, p: Prepared, text: &[u8], starts: &mut [u32]) -> Found
+    requires { ⌜ Ready fold (now rule) p (length (now text)) (length (now starts)) ⌝ }
+    ensures { λ r. ⌜ FoundIs fold (now (rule .entry)) (now (text .entry)) (now (starts .entry)) r (now (starts .exit)) ⌝ }
+{
+    if p.positions < ONE_WORD {
+        return search_low(rule, fold, p, text, starts);
+    }
+    search_wide(rule, fold, p, text, starts)
 }
 
 // The work of an accepted search.
@@ -55,16 +139,7 @@ fn search_accepted(rule: &[u8], fold: u32, p: Prepared, text: &[u8], starts: &mu
     requires { ⌜ Ready fold (now rule) p (length (now text)) (length (now starts)) ⌝ }
     ensures { λ r. ⌜ WorkIs fold (now (rule .entry)) (now (text .entry)) (now (starts .entry)) r (now (starts .exit)) ⌝ }
 {
-    let total = p.positions;
-    let prepared = rule_of(p);
-    let mut forward = [0u64; 256];
-    rule_table::fill(rule, fold, total, &mut forward, false);
-    let mut reversed = [0u64; 256];
-    rule_table::fill(rule, fold, total, &mut reversed, true);
-    let mut first = [0u64; 256];
-    let back = prepared.reversed;
-    window_reader::last_byte_states(&reversed, back, &mut first);
-    let f = window_search::search_tables(&forward, &reversed, &first, prepared, text, starts);
+    let f = search_found(rule, fold, p, text, starts);
     let count = f.count as u32;
     let windows = f.windows as u32;
     answers::counted(count, windows)
@@ -85,17 +160,42 @@ pub fn search(rule: &[u8], fold: u32, text: &[u8], starts: &mut [u32]) -> Answer
     search_accepted(rule, fold, p, text, starts)
 }
 
-// The work of showing, for an accepted rule.
-fn span_accepted(rule: &[u8], fold: u32, p: Prepared, text: &[u8], start: usize) -> Span
+// The work of showing, for a rule of at most 63 positions.
+fn span_low(rule: &[u8], fold: u32, p: Prepared, text: &[u8], start: usize) -> Span
+    requires { ⌜ ShowableLow fold (now rule) p (length (now text)) start ⌝ }
+    ensures { λ r. ⌜ PartIs fold (now (rule .entry)) (now (text .entry)) start r ⌝ }
+{
+    let total = p.positions;
+    let prepared = rule_of(p);
+    let on = prepared.forward;
+    let low = low_masks(on);
+    let mut forward = [0u64; 256];
+    rule_table::fill_plane(rule, fold, total, &mut forward, false, 0);
+    window_search::part_from(&forward, low, text, start)
+}
+
+// The same for a rule of any number of positions.
+fn span_wide(rule: &[u8], fold: u32, p: Prepared, text: &[u8], start: usize) -> Span
     requires { ⌜ Showable fold (now rule) p (length (now text)) start ⌝ }
     ensures { λ r. ⌜ PartIs fold (now (rule .entry)) (now (text .entry)) start r ⌝ }
 {
     let total = p.positions;
     let prepared = rule_of(p);
-    let mut forward = [0u64; 256];
-    rule_table::fill(rule, fold, total, &mut forward, false);
     let on = prepared.forward;
-    window_search::part_from(&forward, on, text, start)
+    let mut forward = [0u64; 1024];
+    rule_table::fill(rule, fold, total, &mut forward, false);
+    wide_window_search::part_from(&forward, on, text, start)
+}
+
+// The work of showing, for an accepted rule: in one word where that does.
+fn span_accepted(rule: &[u8], fold: u32, p: Prepared, text: &[u8], start: usize) -> Span
+    requires { ⌜ Showable fold (now rule) p (length (now text)) start ⌝ }
+    ensures { λ r. ⌜ PartIs fold (now (rule .entry)) (now (text .entry)) start r ⌝ }
+{
+    if p.positions < ONE_WORD {
+        return span_low(rule, fold, p, text, start);
+    }
+    span_wide(rule, fold, p, text, start)
 }
 
 // The part of the text that is shown, as its two places.

@@ -71,11 +71,12 @@ module _ (A : Automaton) (size : ℕ) (text : List ℕ) (w : ℕ) where
 
 -- ---- `window_shift`: the last byte, by the table of first steps
 
-module _ (A : Automaton) (size : ℕ) (text : List ℕ) (w : ℕ) (f : Window size w (length text)) {first : List ℕ} (fs : LastByteStates A first) {b d : ℕ}
-    (eb : b ≡ getD text (w + (size - 1)) 0) (small : b < 256) (ed : d ≡ getD first b 0) where
-  stepped : d ≡ stepOn A 0 (allStates A) b
-  stepped = ed ∙ fs .is b small
+-- what the table of first steps has for a byte
+pub last-byte-state : {A : Automaton} {first : List ℕ} {b d : ℕ} → LastByteStates A first → b < 256 → d ≡ getD first b 0 → d ≡ stepOn A 0 (allStates A) b
+last-byte-state {b = b} fs small e = e ∙ fs .is b small
 
+module _ (A : Automaton) (size : ℕ) (text : List ℕ) (w : ℕ) (f : Window size w (length text)) {b d : ℕ}
+    (eb : b ≡ getD text (w + (size - 1)) 0) (stepped : d ≡ stepOn A 0 (allStates A) b) where
   -- a window of one byte
   pub first-alone : (q : Bool) → size - 1 ≡ 0 → q ≡ topBit (A .top) d → WindowIs A size text w (record { shift = size; hit = q })
   first-alone q z e =

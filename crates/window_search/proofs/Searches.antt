@@ -3,7 +3,7 @@
 use mathlib.Core.Path.{_≡_, refl, sym, ap, subst, _∙_}
 use mathlib.Core.Bool.{Bool, true, false, not}
 use mathlib.Core.List.{List}
-use Prim.Native.Nat.{ℕ, suc, _+_, _-_, _*_, _≤_, _<_}
+use Prim.Native.Nat.{ℕ, suc, _+_, _-_, _*_, _^_, _≤_, _<_}
 use native.Mathlib.Nat.{zero-add}
 use native.Mathlib.Numerals.{add-one}
 use native.Mathlib.Omega.{arith}
@@ -41,21 +41,24 @@ module _ (ps : List Position) (B : Automaton) (size : ℕ) (text : List ℕ) (of
   no-window : length text < w + size → length (windowsFrom (suc (length text)) ps text w) ≡ 0
   no-window h = ap length (windows-stop ps (of .inhabited) (of .some) text w (omega (arith, of .is-shortest)))
 
+-- `small` is said here, and not only asked by the functions, so that it is at hand in their loops.
 pub record Trying (B : Automaton) (size : ℕ) (text : List ℕ) (w₀ w k : ℕ) : Type 0 where
+  pub small : length text < 2 ^ 32
   pub within : w ≤ length text
   pub few : k + w₀ ≤ w
   pub rest : (ps : List Position) → Mirrors ps B size
       → k + length (windowsFrom (suc (length text)) ps text w) ≡ length (windowsFrom (suc (length text)) ps text w₀)
 
 module _ (B : Automaton) (size : ℕ) (text : List ℕ) (w₀ : ℕ) where
-  pub try-begun : w₀ ≤ length text → Trying B size text w₀ w₀ 0
-  try-begun h = record { within = h; few = omega arith; rest = λ ps of. omega arith }
+  pub try-begun : w₀ ≤ length text → length text < 2 ^ 32 → Trying B size text w₀ w₀ 0
+  try-begun h l = record { small = l; within = h; few = omega arith; rest = λ ps of. omega arith }
 
   module _ {w k : ℕ} (g : Trying B size text w₀ w k) where
     pub try-turn : (s : WindowResult) → w + size ≤ length text
         → WindowIs B size text w s
         → Trying B size text w₀ (w + s .shift) (k + 1)
     try-turn s h i = record {
+      small = g .small;
       within = omega (arith, i .short);
       few = omega (arith, i .moves, g .few);
       rest = λ ps of.
@@ -67,6 +70,7 @@ module _ (B : Automaton) (size : ℕ) (text : List ℕ) (w₀ : ℕ) where
     pub try-quick : {r : Bool} → w + size ≤ length text → 1 ≤ size → LastByteAbsent (B .table) size text w r → r ≡ true
         → Trying B size text w₀ (w + size) (k + 1)
     try-quick h m u e = record {
+      small = g .small;
       within = h;
       few = omega (arith, g .few);
       rest = λ ps of.
@@ -117,7 +121,11 @@ module _ (B : Automaton) (size : ℕ) (text : List ℕ) (w₀ : ℕ) where
 
 -- ---- the windows with their verification
 
+-- `some`, `small` and `room` are said here too for that reason.
 pub record SearchProgress (F B : Automaton) (size : ℕ) (text l₀ l : List ℕ) (w count tried spent : ℕ) : Type 0 where
+  pub some : 1 ≤ size
+  pub small : length text < 2 ^ 32
+  pub room : length text ≤ length l₀
   pub within : w ≤ length text
   pub few : count ≤ w
   pub tries : tried ≤ w
@@ -149,8 +157,11 @@ module _ {F B : Automaton} {size : ℕ} {text : List ℕ} {w : ℕ} {x : Tried} 
   empty-less q m h = let b = empty-bounds q .0 in omega arith
 
 module _ (F B : Automaton) (size : ℕ) (text l₀ : List ℕ) where
-  pub begun : SearchProgress F B size text l₀ l₀ 0 0 0 0
-  begun = record {
+  pub begun : 1 ≤ size → length text < 2 ^ 32 → length text ≤ length l₀ → SearchProgress F B size text l₀ l₀ 0 0 0 0
+  begun some small room = record {
+    some = some;
+    small = small;
+    room = room;
     within = omega arith;
     few = omega arith;
     tries = omega arith;
@@ -169,6 +180,9 @@ module _ (F B : Automaton) (size : ℕ) (text l₀ : List ℕ) where
           let b1 = b .1 in
           let b2 = b .2 in
           record {
+            some = g .some;
+            small = g .small;
+            room = g .room;
             within = omega arith;
             few = omega (arith, g .few);
             tries = omega (arith, g .tries);
@@ -194,6 +208,9 @@ module _ (F B : Automaton) (size : ℕ) (text l₀ : List ℕ) where
           let b1 = b .1 in
           let b2 = b .2 in
           record {
+            some = g .some;
+            small = g .small;
+            room = g .room;
             within = omega arith;
             few = omega (arith, g .few);
             tries = omega (arith, g .tries);
@@ -214,6 +231,9 @@ module _ (F B : Automaton) (size : ℕ) (text l₀ : List ℕ) where
     -- windows passed over
     pub windows-skipped : {w′ k : ℕ} → SkippedIs B size text w w′ k → SearchProgress F B size text l₀ l w′ count (tried + k) spent
     windows-skipped {w′} {k} s = record {
+      some = g .some;
+      small = g .small;
+      room = g .room;
       within = s .within;
       few = omega (arith, g .few, s .few);
       tries = omega (arith, g .tries, s .few);
@@ -230,8 +250,8 @@ module _ (F B : Automaton) (size : ℕ) (text l₀ : List ℕ) where
     }
 
     -- the list has an entry for a start at w
-    pub has-entry : 1 ≤ size → w + size ≤ length text → length text ≤ length l₀ → count < length l
-    has-entry some h room = omega (arith, g .few, g .long)
+    pub has-entry : w + size ≤ length text → count < length l
+    has-entry h = omega (arith, g .some, g .room, g .few, g .long)
 
     pub halted : PartIs F B size text l₀ (record { next = w; count = count; windows = tried }) l
     halted = record { within = g .within; few = g .few; tries = g .tries; long = g .long; rest = g .rest }

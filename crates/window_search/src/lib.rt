@@ -43,7 +43,7 @@ pub struct Found {
 const SPARE: usize = 4096;
 
 // How far a verification from w may read: all verifying up to window w reads at most 2 w + SPARE bytes.
-fn allowed(len: usize, w: usize, spent: usize) -> usize
+pub fn allowed(len: usize, w: usize, spent: usize) -> usize
     requires { ⌜ Spends len w spent ⌝ }
     ensures { λ r. ⌜ Allowed len w spent r ⌝ }
 {

@@ -4,8 +4,8 @@ use Rattle.prefilter.proofs.PairTests.{plan-pair}
 use Rattle.prefilter.proofs.pair_ordered.Statement.{statement}
 use Rattle.prefilter.proofs.pair_ordered.Tie as tie
 
-pair-is-sound-requires : tie.Need-pair-is-sound-requires
-pair-is-sound-requires c κs = search needs
+test-pair-requires : tie.Need-test-pair-requires
+test-pair-requires c κs = search needs
 
 offset-requires : tie.Need-offset-requires
 offset-requires c κs = search needs
@@ -25,4 +25,4 @@ returns-2 c = search needs
 pub pair-ordered-spec : {M : Type 1} → statement M
 pair-ordered-spec =
     tie.close
-    (tie.spec pair-is-sound-requires offset-requires offset-requires-2 returns choose-by-byte-requires returns-2)
+    (tie.spec test-pair-requires offset-requires offset-requires-2 returns choose-by-byte-requires returns-2)

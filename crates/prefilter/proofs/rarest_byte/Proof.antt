@@ -10,6 +10,9 @@ Inv-loop table free rank rare r₀ r = 0 ≤ r
 abbrev μ-loop : tie.MeasureT-loop
 μ-loop table free rank rare r₀ r = 256 - r
 
+skip-absent-requires : tie.Need-skip-absent-requires Inv-loop μ-loop
+skip-absent-requires c κs = search needs
+
 loop-holds : tie.Need-loop-holds Inv-loop μ-loop
 loop-holds c = search needs
 
@@ -40,6 +43,7 @@ rarest-byte-spec =
     (tie.spec
     Inv-loop
     μ-loop
+    skip-absent-requires
     loop-holds
     element-copy-out-c
     unique-bits-requires

@@ -37,11 +37,8 @@ returns-3 c = search prepare-refused
 enum-known-read-2 : tie.Need-enum-known-read-2
 enum-known-read-2 c = search needs
 
-position-mask-requires : tie.Need-position-mask-requires
-position-mask-requires c κs = search few-positions
-
-shortest-requires : tie.Need-shortest-requires
-shortest-requires c κs = search needs
+required-requires : tie.Need-required-requires
+required-requires c κs = search few-positions
 
 cast-end : tie.Need-cast-end
 cast-end c = search needs
@@ -70,8 +67,7 @@ prepare-spec =
     refusal-requires-3
     returns-3
     enum-known-read-2
-    position-mask-requires
-    shortest-requires
+    required-requires
     cast-end
     refusal-requires-4
     returns-4

@@ -13,6 +13,9 @@ Inv-loop rule fold t₀ at₀ t at = Parsing fold rule t at
 abbrev μ-loop : tie.MeasureT-loop
 μ-loop rule fold t₀ at₀ t at = length rule - at
 
+no-bits-requires : tie.Need-no-bits-requires Inv-loop μ-loop
+no-bits-requires c κs = search needs
+
 loop-holds : tie.Need-loop-holds Inv-loop μ-loop
 loop-holds c = search begun
 
@@ -52,6 +55,7 @@ read-rule-spec =
     (tie.spec
     Inv-loop
     μ-loop
+    no-bits-requires
     loop-holds
     read-element-requires
     enum-known-answer

@@ -1,69 +1,51 @@
 -- `rule_table::fill` meets its contract.
 use borrow.Author.Needs.{needs}
-use lib.ListN.{length}
-use native.Mathlib.Omega.{arith}
 use Prim.Native.Nat.{_-_}
-use Rattle.model.specs.RuleText.{foldFlag}
-use Rattle.model.specs.NumberedAnswers.{rulePositions}
-use Rattle.rule_table.proofs.FillLaws.{Filling, fill-begun, fill-never, fill-over, fill-ahead, fill-room, fill-turn}
+use Rattle.rule_table.proofs.FillLaws.{FillingPlanes, planes-begun, plane-room, plane-fillable, planes-turn, planes-over}
 use Rattle.rule_table.proofs.fill.Statement.{statement}
 use Rattle.rule_table.proofs.fill.Tie as tie
 
 abbrev Inv-loop : tie.InvT-loop
-Inv-loop rule fold total table₀ reversed f at₀ used₀ table at used = Filling f rule (rulePositions (foldFlag fold) rule) reversed total table at used
+Inv-loop rule fold total table₀ reversed word₀ at₀ table word at = FillingPlanes fold rule reversed table word at
 
 abbrev μ-loop : tie.MeasureT-loop
-μ-loop rule fold total table₀ reversed f at₀ used₀ table at used = length rule - at
-
-clear-requires : tie.Need-clear-requires Inv-loop μ-loop
-clear-requires c κs = search needs
-
-folds-requires : tie.Need-folds-requires Inv-loop μ-loop
-folds-requires c κs = search needs
+μ-loop rule fold total table₀ reversed word₀ at₀ table word at = 4 - word
 
 loop-holds : tie.Need-loop-holds Inv-loop μ-loop
-loop-holds c = search fill-begun
+loop-holds c = search planes-begun
 
-read-element-requires : tie.Need-read-element-requires Inv-loop μ-loop
-read-element-requires c κs = search needs
+add-end : tie.Need-add-end Inv-loop μ-loop
+add-end c = search needs
 
-enum-told : tie.Need-enum-told Inv-loop μ-loop
-enum-told c = search needs
+mul-fill-plane : tie.Need-mul-fill-plane Inv-loop μ-loop
+mul-fill-plane c = search needs
+
+sub-fill-plane : tie.Need-sub-fill-plane Inv-loop μ-loop
+sub-fill-plane c = search needs
+
+part-fill-plane-start : tie.Need-part-fill-plane-start Inv-loop μ-loop
+part-fill-plane-start c = search needs
+
+part-fill-plane-end : tie.Need-part-fill-plane-end Inv-loop μ-loop
+part-fill-plane-end c = search plane-room
+
+fill-plane-requires : tie.Need-fill-plane-requires Inv-loop μ-loop
+fill-plane-requires c κs = search plane-fillable
+
+add-word : tie.Need-add-word Inv-loop μ-loop
+add-word c = search needs
+
+loop-less : tie.Need-loop-less Inv-loop μ-loop
+loop-less c = search needs
+
+loop-again : tie.Need-loop-again Inv-loop μ-loop
+loop-again c = search planes-turn
 
 same-length : tie.Need-same-length Inv-loop μ-loop
 same-length c = search needs
 
 returns : tie.Need-returns Inv-loop μ-loop
-returns c = search fill-never
-
-enum-known-answer : tie.Need-enum-known-answer Inv-loop μ-loop
-enum-known-answer c = search needs
-
-place-requires : tie.Need-place-requires Inv-loop μ-loop
-place-requires c κs = search (fill-room, needs)
-
-add-used : tie.Need-add-used Inv-loop μ-loop
-add-used c =
-    let a = c .before .before .before .before .before in
-    let e = a .before .before .before in
-    let m = fill-room _ _ _ _ _ _ _ _ (e .before .before .loop .inv) (e .before .loop-test .taken) _ (e .read-element .ensures) _ _ (a .answer .given .1) in
-    omega (arith, m .room, m .few, c .before .before .place .ensures .size)
-
-loop-less : tie.Need-loop-less Inv-loop μ-loop
-loop-less c =
-    let a = c .before .before .before .before .before in
-    let e = a .before .before .before in
-    let m = fill-ahead _ _ _ _ _ _ _ _ (e .before .before .loop .inv) (e .before .loop-test .taken) _ (e .read-element .ensures) _ _ (a .answer .given .1) in
-    omega arith
-
-loop-again : tie.Need-loop-again Inv-loop μ-loop
-loop-again c = search fill-turn
-
-same-length-2 : tie.Need-same-length-2 Inv-loop μ-loop
-same-length-2 c = search needs
-
-returns-2 : tie.Need-returns-2 Inv-loop μ-loop
-returns-2 c = search fill-over
+returns c = search planes-over
 
 pub fill-spec : {M : Type 1} → statement M
 fill-spec =
@@ -71,17 +53,15 @@ fill-spec =
     (tie.spec
     Inv-loop
     μ-loop
-    clear-requires
-    folds-requires
     loop-holds
-    read-element-requires
-    enum-told
-    same-length
-    returns
-    enum-known-answer
-    place-requires
-    add-used
+    add-end
+    mul-fill-plane
+    sub-fill-plane
+    part-fill-plane-start
+    part-fill-plane-end
+    fill-plane-requires
+    add-word
     loop-less
     loop-again
-    same-length-2
-    returns-2)
+    same-length
+    returns)

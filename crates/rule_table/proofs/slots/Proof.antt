@@ -4,35 +4,26 @@ use Rattle.rule_table.proofs.GainLaws.{slots-back, slots-on}
 use Rattle.rule_table.proofs.slots.Statement.{statement}
 use Rattle.rule_table.proofs.slots.Tie as tie
 
-low-ones-requires : tie.Need-low-ones-requires
-low-ones-requires c κs = search needs
+sub-bits-of : tie.Need-sub-bits-of
+sub-bits-of c = search needs
 
-sub-result : tie.Need-sub-result
-sub-result c = search needs
+sub-bits-of-2 : tie.Need-sub-bits-of-2
+sub-bits-of-2 c = search needs
 
-sub-result-2 : tie.Need-sub-result-2
-sub-result-2 c = search needs
+add-bits-of : tie.Need-add-bits-of
+add-bits-of c = search needs
 
-add-result : tie.Need-add-result
-add-result c = search needs
-
-cast-result : tie.Need-cast-result
-cast-result c = search needs
-
-shl-result : tie.Need-shl-result
-shl-result c = search needs
+bits-of-requires : tie.Need-bits-of-requires
+bits-of-requires c κs = search needs
 
 returns : tie.Need-returns
 returns c = search slots-back
 
-add-result-2 : tie.Need-add-result-2
-add-result-2 c = search needs
+add-bits-of-2 : tie.Need-add-bits-of-2
+add-bits-of-2 c = search needs
 
-cast-result-2 : tie.Need-cast-result-2
-cast-result-2 c = search needs
-
-shl-result-2 : tie.Need-shl-result-2
-shl-result-2 c = search needs
+bits-of-requires-2 : tie.Need-bits-of-requires-2
+bits-of-requires-2 c κs = search needs
 
 returns-2 : tie.Need-returns-2
 returns-2 c = search slots-on
@@ -41,14 +32,11 @@ pub slots-spec : {M : Type 1} → statement M
 slots-spec =
     tie.close
     (tie.spec
-    low-ones-requires
-    sub-result
-    sub-result-2
-    add-result
-    cast-result
-    shl-result
+    sub-bits-of
+    sub-bits-of-2
+    add-bits-of
+    bits-of-requires
     returns
-    add-result-2
-    cast-result-2
-    shl-result-2
+    add-bits-of-2
+    bits-of-requires-2
     returns-2)

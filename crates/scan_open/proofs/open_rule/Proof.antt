@@ -15,8 +15,8 @@ slice-aggregate-fill c = simp length-take (omega arith)
 fill-requires : tie.Need-fill-requires
 fill-requires c κs = search table-fillable
 
-cast-t9 : tie.Need-cast-t9
-cast-t9 c = search needs
+cast-top : tie.Need-cast-top
+cast-top c = search needs
 
 begin-requires : tie.Need-begin-requires
 begin-requires c κs = search filled-long
@@ -34,7 +34,7 @@ open-rule-spec =
     slice-relend-prefix-fill
     slice-aggregate-fill
     fill-requires
-    cast-t9
+    cast-top
     begin-requires
     same-length
     returns)

@@ -4,9 +4,6 @@ use borrow.Author.Needs.{needs}
 use Rattle.scan_piece.proofs.feed_bytes.Statement.{statement}
 use Rattle.scan_piece.proofs.feed_bytes.Tie as tie
 
-choose-requires : tie.Need-choose-requires
-choose-requires c κs = search needs
-
 feed-rest-requires : tie.Need-feed-rest-requires
 feed-rest-requires c κs = (search needs, (search needs, (search needs, (search needs, search needs))))
 
@@ -29,7 +26,6 @@ pub feed-bytes-spec : {M : Type 1} → statement M
 feed-bytes-spec =
     tie.close
     (tie.spec
-    choose-requires
     feed-rest-requires
     same-length
     returns

@@ -1,19 +1,17 @@
--- `scan_value::put` meets its contract.
-use native.Mathlib.Omega.{arith}
-use lib.ListN.{length-set}
+-- `scan_value::put` meets its contract. Its laws are in this crate's `proofs/`; `search LAW` finds a law's premises in `c`. Assumes nothing.
 use Rattle.scan_value.proofs.Readback.{plan-after, put-is, put-same}
 use borrow.Author.Needs.{needs}
 use Rattle.scan_value.proofs.put.Statement.{statement}
 use Rattle.scan_value.proofs.put.Tie as tie
 
-slice-write-scan : tie.Need-slice-write-scan
-slice-write-scan c = search needs
+put-words-requires : tie.Need-put-words-requires
+put-words-requires c κs = search needs
 
 sub-put : tie.Need-sub-put
-sub-put c = simp length-set (omega arith)
+sub-put c = search needs
 
 part-put-start : tie.Need-part-put-start
-part-put-start c = simp length-set (omega arith)
+part-put-start c = search needs
 
 part-put-end : tie.Need-part-put-end
 part-put-end c = search needs
@@ -31,7 +29,7 @@ pub put-spec : {M : Type 1} → statement M
 put-spec =
     tie.close
     (tie.spec
-    slice-write-scan
+    put-words-requires
     sub-put
     part-put-start
     part-put-end

@@ -1,4 +1,4 @@
--- `text_search::rule_of` meets its contract.
+-- `text_search::rule_of` meets its contract. Its laws are in this crate's `proofs/`; `search LAW` finds a law's premises in `c`. Assumes nothing.
 use Rattle.text_search.proofs.Parts.{rule-prepared}
 use borrow.Author.Needs.{needs}
 use Rattle.text_search.proofs.rule_of.Statement.{statement}

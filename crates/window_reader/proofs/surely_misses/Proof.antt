@@ -1,5 +1,5 @@
 -- `window_reader::surely_misses` meets its contract.
-use Rattle.window_reader.proofs.WindowLaws.{quiet-pair, quiet-long}
+use Rattle.window_reader.proofs.WindowLaws.{quiet-pair, quiet-long, last-byte-state}
 use borrow.Author.Needs.{needs}
 use Rattle.window_reader.proofs.surely_misses.Statement.{statement}
 use Rattle.window_reader.proofs.surely_misses.Tie as tie
@@ -50,10 +50,10 @@ accepts-requires-2 : tie.Need-accepts-requires-2
 accepts-requires-2 c κs = search needs
 
 returns : tie.Need-returns
-returns c = search quiet-pair
+returns c = search (quiet-pair, last-byte-state)
 
 returns-2 : tie.Need-returns-2
-returns-2 c = search quiet-long
+returns-2 c = search (quiet-long, last-byte-state)
 
 pub surely-misses-spec : {M : Type 1} → statement M
 surely-misses-spec =

@@ -1,5 +1,5 @@
 -- `window_reader::window_shift` meets its contract.
-use Rattle.window_reader.proofs.WindowLaws.{first-alone, first-emptied, first-begins, first-passed}
+use Rattle.window_reader.proofs.WindowLaws.{first-alone, first-emptied, first-begins, first-passed, last-byte-state}
 use borrow.Author.Needs.{needs}
 use Rattle.window_reader.proofs.window_shift.Statement.{statement}
 use Rattle.window_reader.proofs.window_shift.Tie as tie
@@ -26,22 +26,22 @@ accepts-requires : tie.Need-accepts-requires
 accepts-requires c κs = search needs
 
 returns : tie.Need-returns
-returns c = search first-alone
+returns c = search (first-alone, last-byte-state)
 
 returns-2 : tie.Need-returns-2
-returns-2 c = search first-emptied
+returns-2 c = search (first-emptied, last-byte-state)
 
 sub-next : tie.Need-sub-next
 sub-next c = search needs
 
 read-back-requires : tie.Need-read-back-requires
-read-back-requires c κs = (search needs, (search needs, search first-begins))
+read-back-requires c κs = (search needs, (search needs, search (first-begins, last-byte-state)))
 
 returns-3 : tie.Need-returns-3
 returns-3 c = search needs
 
 read-back-requires-2 : tie.Need-read-back-requires-2
-read-back-requires-2 c κs = (search needs, (search needs, search first-passed))
+read-back-requires-2 c κs = (search needs, (search needs, search (first-passed, last-byte-state)))
 
 returns-4 : tie.Need-returns-4
 returns-4 c = search needs

@@ -15,7 +15,7 @@ abbrev μ-loop : tie.MeasureT-loop
 μ-loop forward reversed first rule text starts₀ w₀ count₀ tried₀ spent₀ starts w count tried spent = length text - w
 
 loop-holds : tie.Need-loop-holds Inv-loop μ-loop
-loop-holds c = search begun
+loop-holds c = search (begun, rule-some)
 
 add-if1 : tie.Need-add-if1 Inv-loop μ-loop
 add-if1 c = search needs
@@ -45,7 +45,7 @@ mul-starts : tie.Need-mul-starts Inv-loop μ-loop
 mul-starts c = search needs
 
 slice-write-starts : tie.Need-slice-write-starts Inv-loop μ-loop
-slice-write-starts c = search (has-entry, rule-some)
+slice-write-starts c = search has-entry
 
 add-count : tie.Need-add-count Inv-loop μ-loop
 add-count c = search needs
@@ -57,7 +57,7 @@ add-w : tie.Need-add-w Inv-loop μ-loop
 add-w c = omega (arith, start-short (c .before .before .before .try-window .ensures) (c .before .found .given .1))
 
 loop-less-2 : tie.Need-loop-less-2 Inv-loop μ-loop
-loop-less-2 c = search (start-less, rule-some)
+loop-less-2 c = search start-less
 
 loop-again-2 : tie.Need-loop-again-2 Inv-loop μ-loop
 loop-again-2 c = search started
@@ -72,7 +72,7 @@ add-w-2 : tie.Need-add-w-2 Inv-loop μ-loop
 add-w-2 c = omega (arith, empty-short (c .before .before .before .try-window .ensures) (c .before .found2 .given .1))
 
 loop-less-3 : tie.Need-loop-less-3 Inv-loop μ-loop
-loop-less-3 c = search (empty-less, rule-some)
+loop-less-3 c = search empty-less
 
 loop-again-3 : tie.Need-loop-again-3 Inv-loop μ-loop
 loop-again-3 c = search passed

@@ -1,0 +1,5 @@
+-- What the contracts cite.
+pub mod ManyWords
+pub mod Wides
+pub mod Stepping
+pub mod Examples

@@ -1,0 +1,3 @@
+-- The laws.
+pub mod Narrow
+pub mod Ways
