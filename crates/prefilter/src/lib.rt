@@ -32,7 +32,7 @@ pub struct Prefilter {
     pub clear: bool,
 }
 
-// From how many bytes on a prefilter pays for its choice (some 75 ns).
+// From how many bytes on a prefilter pays for its choice.
 const PREFILTER_PAYS: usize = 256;
 
 // The prefilter for a text of `len` bytes.

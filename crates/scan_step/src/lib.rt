@@ -71,7 +71,7 @@ fn step_piece_wide(scan: &[u64], piece: &[u8], ends: &mut [u32]) -> WideFed
 }
 
 // Steps over what a piece lets out, after the bytes held back: by the lowest word alone where that does. Its
-// prefilter goes straight on: a struct that is put into another is copied, and the copy waits for the stores.
+// prefilter is chosen here, and not kept in a struct with the way, which was copied once more at each feed.
 pub fn step_piece(scan: &[u64], piece: &[u8], ends: &mut [u32]) -> WideFed
     requires { ⌜ Fine (now scan) (length (now piece)) (length (now ends)) ⌝ }
     ensures { λ r. ⌜ PieceStepped (now (scan .entry)) (now (piece .entry)) (now (ends .entry)) r (now (ends .exit)) ⌝ }
