@@ -16,7 +16,7 @@ static void accepted(uint32_t number, const char *call)
 static void *open_scan(const rule *r)
 {
     uint64_t *opened = need(calloc(JAZHUPPE_SCAN_WORDS, sizeof *opened));
-    accepted(jazhuppe_open((const uint8_t *)r->text, strlen(r->text), 0, opened, JAZHUPPE_SCAN_WORDS).number, r->text);
+    accepted(jazhuppe_open((const uint8_t *)r->text, strlen(r->text), 0, NULL, 0, NULL, 0, opened, JAZHUPPE_SCAN_WORDS).number, r->text);
     return opened;
 }
 

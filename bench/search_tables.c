@@ -15,7 +15,8 @@ typedef struct {
 static void search_all(void *with)
 {
     searching *s = with;
-    s->answer = jazhuppe_search((const uint8_t *)s->r->text, strlen(s->r->text), 0, s->text.at, s->text.length, s->starts, s->text.length);
+    s->answer = jazhuppe_search((const uint8_t *)s->r->text, strlen(s->r->text), 0, NULL, 0, NULL, 0, s->text.at, s->text.length, s->starts,
+                                s->text.length);
     if (s->answer.number)
         die("refused", "search");
 }

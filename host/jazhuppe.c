@@ -2,6 +2,7 @@
 #define _POSIX_C_SOURCE 200809L
 #define _DEFAULT_SOURCE /* MAP_ANONYMOUS, MAP_NORESERVE */
 #define _FILE_OFFSET_BITS 64
+#include <ctype.h>
 #include <errno.h>
 #include <fcntl.h>
 #include <inttypes.h>
@@ -25,10 +26,13 @@ static const uint64_t mebibyte = 1024 * 1024;
 /* What is printed of an occurrence. */
 typedef enum { ENDS, STARTS, TEXTS } output;
 
+/* A rule, and the codes that a plan is read with. */
 typedef struct {
     const uint8_t *bytes;
     size_t length;
     uint32_t fold;
+    size_t codes_count;
+    uint8_t codes[JAZHUPPE_CODES_MOST], sets[JAZHUPPE_CODES_MOST * JAZHUPPE_SET_BYTES];
 } rule;
 
 /* One plan: its descriptor, its name, and what its lines begin with. */
@@ -39,7 +43,7 @@ typedef struct {
     uint64_t size; /* 0 where it is not known */
 } plan;
 
-static const char usage_line[] = "usage: jazhuppe [-i] [-e | -s | -t] RULE [FILE...]\n";
+static const char usage_line[] = "usage: jazhuppe [-i] [-c CODE=SET]... [-e | -s | -t] RULE [FILE...]\n";
 
 static const char help_text[] =
     "Finds where a seat rule occurs in seating plans, after references such as &amp;\n"
@@ -49,7 +53,11 @@ static const char help_text[] =
     "  -e         print where occurrences end, reading on with constant memory (default)\n"
     "  -s         print where occurrences start\n"
     "  -t         print FILE:START:TEXT, from each start to the earliest end there\n"
-    "  -i         small and capital letters A to Z are alike\n"
+    "  -i         small and capital letters A to Z are alike in RULE\n"
+    "  -c CODE=SET\n"
+    "             the byte CODE, or 0xHH, stands in the plan for a character that could\n"
+    "             not be read, and may be any byte of SET, which is written as in a rule:\n"
+    "             -c '?=[0-9]'; up to 8 times\n"
     "  --         no more options: RULE may begin with -\n"
     "  --help     print this and exit\n"
     "  --version  print the version and exit\n"
@@ -63,22 +71,27 @@ static const char help_text[] =
     "\n"
     "Exit status: 0 something was found, 1 nothing, 2 trouble.\n";
 
-/* The requirement's words for each refusal. */
-static const char *const refusal_words[] = {
-    "",
-    "the rule is empty",
-    "the rule is over 1,023 bytes",
-    "class unclosed, empty, with a reversed range, a bad \\ or misplaced -, or left with no byte",
-    "gap not of the form {a,b} with one or two digits each, a > b, or b = 0",
-    "?, + or * first, after a gap, or after another of them",
-    "bad or last \\, or stray ] or }",
-    "this element takes the positions past 255",
-    "the rule admits the empty string",
-    "list or buffer too short",
-    "more than 4294967295 bytes",
-    "impossible scan value",
-    "scan already finished",
-};
+/* The requirement's words for each refusal, of 15 those that a command line can come to; some numbers have none. */
+static const char *refusal_words(uint32_t number)
+{
+    static const char *const words[] = {
+        [JAZHUPPE_RULE_EMPTY] = "the rule is empty",
+        [JAZHUPPE_RULE_LONG] = "the rule is over 1,023 bytes",
+        [JAZHUPPE_CLASS] = "class unclosed, empty, with a reversed range, a bad \\ or misplaced -, or left with no byte",
+        [JAZHUPPE_GAP] = "gap not of the form {a,b} with one or two digits each, a > b, or b = 0",
+        [JAZHUPPE_MARK] = "?, + or * first, after a gap, or after another of them",
+        [JAZHUPPE_BYTE] = "bad or last \\, or stray ] or }",
+        [JAZHUPPE_POSITIONS] = "this element takes the positions past 255",
+        [JAZHUPPE_ADMITS_EMPTY] = "the rule admits the empty string",
+        [JAZHUPPE_TOO_SHORT] = "list or buffer too short",
+        [JAZHUPPE_TOO_MUCH] = "more than 4294967295 bytes",
+        [JAZHUPPE_IMPOSSIBLE] = "impossible scan value",
+        [JAZHUPPE_FINISHED] = "scan already finished",
+        [JAZHUPPE_CODES] = "a code named twice, a SET with a code in it, or a position of the rule that holds codes alone",
+    };
+
+    return number < sizeof words / sizeof words[0] && words[number] != NULL ? words[number] : "a refusal without words";
+}
 
 /* ---- progress, on a terminal */
 
@@ -132,7 +145,7 @@ static int failed(const plan *p)
 static void refused_plan(const plan *p, uint32_t number)
 {
     hide_progress();
-    fprintf(stderr, "jazhuppe: %s: refused %" PRIu32 ": %s\n", p->name, number, refusal_words[number]);
+    fprintf(stderr, "jazhuppe: %s: refused %" PRIu32 ": %s\n", p->name, number, refusal_words(number));
 }
 
 /* A byte that goes on a character of UTF-8 takes no column of its own. */
@@ -169,8 +182,61 @@ static void point_at(const rule *r, size_t place)
 
 static void refused_rule(const rule *r, jazhuppe_prepared p)
 {
-    fprintf(stderr, "jazhuppe: refused %" PRIu32 " at %" PRIu32 ": %s\n", p.number, p.place, refusal_words[p.number]);
+    fprintf(stderr, "jazhuppe: refused %" PRIu32 " at %" PRIu32 ": %s\n", p.number, p.place, refusal_words(p.number));
     point_at(r, p.place);
+}
+
+/* That has no place in the rule. */
+static void refused_codes(void)
+{
+    fprintf(stderr, "jazhuppe: refused %d: %s\n", JAZHUPPE_CODES, refusal_words(JAZHUPPE_CODES));
+}
+
+/* ---- the finder, with a rule and its codes */
+
+static jazhuppe_prepared open_scan(const rule *r, uint64_t *scan)
+{
+    return jazhuppe_open(r->bytes, r->length, r->fold, r->codes, r->codes_count, r->sets,
+                         r->codes_count * JAZHUPPE_SET_BYTES, scan, JAZHUPPE_SCAN_WORDS);
+}
+
+/* The list has an entry for each byte of the text. */
+static jazhuppe_answer search(const rule *r, const uint8_t *text, size_t length, uint32_t *starts)
+{
+    return jazhuppe_search(r->bytes, r->length, r->fold, r->codes, r->codes_count, r->sets,
+                           r->codes_count * JAZHUPPE_SET_BYTES, text, length, starts, length);
+}
+
+/* The earliest end of what starts there by codes, of which jazhuppe_show takes none: the first end in a scan of the text
+ * from the start on. What starts later does not end before it: side by side, the way through the rule's positions that
+ * is ahead stays ahead, or could go on as the other does. */
+static size_t first_end(const rule *r, const uint8_t *text, size_t length, size_t start)
+{
+    uint64_t scan[JAZHUPPE_SCAN_WORDS];
+    uint32_t ends[JAZHUPPE_FEED_LIST(5)];
+
+    open_scan(r, scan);
+    for (size_t at = start; at < length; at++) {
+        /* The text is decoded already: an & in it goes through once more as one. */
+        bool spelt = text[at] == '&';
+        const uint8_t *piece = spelt ? (const uint8_t *)"&amp;" : text + at;
+        size_t bytes = spelt ? 5 : 1;
+
+        if (jazhuppe_feed(scan, JAZHUPPE_SCAN_WORDS, piece, bytes, ends, JAZHUPPE_FEED_LIST(bytes)).count > 0)
+            return at + 1;
+    }
+    return length;
+}
+
+/* The part of the text from a start to the earliest end there. */
+static jazhuppe_span shown_at(const rule *r, const uint8_t *text, size_t length, size_t start)
+{
+    jazhuppe_span shown = {start, 0};
+
+    if (r->codes_count == 0)
+        return jazhuppe_show(r->bytes, r->length, r->fold, text, length, start);
+    shown.to = first_end(r, text, length, start);
+    return shown;
 }
 
 /* ---- lines */
@@ -219,7 +285,7 @@ static void print_texts(const plan *p, const rule *r, const uint8_t *text, size_
                         uint32_t count)
 {
     for (uint32_t i = 0; i < count && write_error == 0; i++) {
-        jazhuppe_span shown = jazhuppe_show(r->bytes, r->length, r->fold, text, length, starts[i]);
+        jazhuppe_span shown = shown_at(r, text, length, starts[i]);
 
         begin_line(p);
         printf("%" PRIu32 ":", starts[i]);
@@ -285,7 +351,7 @@ static int scan_plan(const plan *p, const rule *r)
     int status = NONE;
     ssize_t n;
 
-    jazhuppe_open(r->bytes, r->length, r->fold, scan, JAZHUPPE_SCAN_WORDS);
+    open_scan(r, scan);
     while ((n = read_some(p, piece, PIECE)) > 0) {
         status = both(status, feed_piece(p, scan, piece, (size_t)n));
         if (status == TROUBLE || write_error != 0)
@@ -322,7 +388,7 @@ static int search_text(const plan *p, const rule *r, output printed, const uint8
         return failed(p);
     begin_progress();
     show_progress(p, "searching", length);
-    a = jazhuppe_search(r->bytes, r->length, r->fold, text, length, starts, length);
+    a = search(r, text, length, starts);
     if (a.number != 0)
         refused_plan(p, a.number);
     else if (printed == STARTS)
@@ -478,26 +544,114 @@ static int print_version(void)
     return closed(FOUND);
 }
 
-/* The letters of one argument; false if there is another among them. */
-static bool take_letters(const char *letters, rule *r, output *printed)
+/* What comes after the code and a =, or NULL: a code is one byte as it is, or 0xHH. */
+static const char *read_code(const char *argument, uint8_t *code)
 {
-    for (; *letters != '\0'; letters++) {
-        switch (*letters) {
+    if (argument[0] != '\0' && argument[1] == '=') {
+        *code = (uint8_t)argument[0];
+        return argument + 2;
+    }
+    if (strncmp(argument, "0x", 2) != 0 || !isxdigit((unsigned char)argument[2]) ||
+        !isxdigit((unsigned char)argument[3]) || argument[4] != '=')
+        return NULL;
+    *code = (uint8_t)strtoul(argument, NULL, 16);
+    return argument + 5;
+}
+
+/* The bytes of a rule of one position: where it is found in a text of each byte once. */
+static void read_set(const rule *set, uint8_t *bits)
+{
+    uint8_t each[256];
+    uint32_t found[256];
+    jazhuppe_answer a;
+
+    for (int c = 0; c < 256; c++)
+        each[c] = (uint8_t)c;
+    a = search(set, each, sizeof each, found);
+    for (uint32_t i = 0; i < a.count; i++)
+        bits[found[i] / 8] |= (uint8_t)(1 << found[i] % 8);
+}
+
+static rule rule_of(const char *bytes)
+{
+    rule r;
+
+    memset(&r, 0, sizeof r);
+    r.bytes = (const uint8_t *)bytes;
+    r.length = strlen(bytes);
+    return r;
+}
+
+/* Whether a SET is one position of a rule; if not, it has been told. */
+static bool one_position(const rule *set)
+{
+    jazhuppe_prepared p = jazhuppe_prepare(set->bytes, set->length, set->fold);
+
+    if (p.number != 0)
+        refused_rule(set, p);
+    else if (p.positions != 1)
+        misused("SET is not one position of a rule: ", (const char *)set->bytes);
+    return p.number == 0 && p.positions == 1;
+}
+
+/* Adds what -c was given to the rule's codes; false where it has said what is wrong. */
+static bool take_code(const char *argument, rule *r)
+{
+    uint8_t code = 0;
+    const char *spelt = argument == NULL ? NULL : read_code(argument, &code);
+    rule set = rule_of(spelt == NULL ? "" : spelt);
+
+    if (argument == NULL) {
+        misused("-c needs CODE=SET", "");
+        return false;
+    }
+    if (spelt == NULL || r->codes_count == JAZHUPPE_CODES_MOST) {
+        misused(spelt == NULL ? "not CODE=SET, with CODE one byte or 0xHH: " : "more than 8 codes: ", argument);
+        return false;
+    }
+    if (!one_position(&set))
+        return false;
+    r->codes[r->codes_count] = code;
+    read_set(&set, r->sets + r->codes_count * JAZHUPPE_SET_BYTES);
+    r->codes_count++;
+    return true;
+}
+
+/* The letters of one argument; -c takes the rest of it, or the next one. False where it has said what is wrong. */
+static bool take_letters(char **argv, int *at, rule *r, output *printed)
+{
+    const char *option = argv[*at];
+
+    for (const char *letter = option + 1; *letter != '\0'; letter++) {
+        switch (*letter) {
         case 'i': r->fold = 1; break;
         case 'e': *printed = ENDS; break;
         case 's': *printed = STARTS; break;
         case 't': *printed = TEXTS; break;
-        default: return false;
+        case 'c': return take_code(letter[1] != '\0' ? letter + 1 : argv[++*at], r);
+        default: misused("no such option: ", option); return false;
         }
     }
     return true;
 }
 
+/* Whether the finder takes the rule and its codes; if not, it has been told. */
+static bool accepted(const rule *r)
+{
+    uint64_t scan[JAZHUPPE_SCAN_WORDS];
+    jazhuppe_prepared p = open_scan(r, scan);
+
+    if (p.number == JAZHUPPE_CODES)
+        refused_codes();
+    else if (p.number != 0)
+        refused_rule(r, p);
+    return p.number == 0;
+}
+
 int main(int argc, char **argv)
 {
-    rule r = {NULL, 0, 0};
+    rule r = rule_of("");
     output printed = ENDS;
-    jazhuppe_prepared prepared;
     int at = 1;
 
     for (; at < argc && argv[at][0] == '-' && argv[at][1] != '\0'; at++) {
@@ -509,18 +663,15 @@ int main(int argc, char **argv)
             return print_help();
         if (strcmp(argv[at], "--version") == 0)
             return print_version();
-        if (!take_letters(argv[at] + 1, &r, &printed))
-            return misused("no such option: ", argv[at]);
+        if (!take_letters(argv, &at, &r, &printed))
+            return TROUBLE;
     }
     if (at == argc)
         return misused("RULE is missing", "");
     r.bytes = (const uint8_t *)argv[at];
     r.length = strlen(argv[at]);
-    prepared = jazhuppe_prepare(r.bytes, r.length, r.fold);
-    if (prepared.number != 0) {
-        refused_rule(&r, prepared);
+    if (!accepted(&r))
         return TROUBLE;
-    }
     signal(SIGPIPE, SIG_IGN);
     progress.wanted = isatty(STDERR_FILENO) != 0;
     return closed(find(&r, printed, argv + at + 1, argc - at - 1));

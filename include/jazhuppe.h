@@ -17,6 +17,12 @@
  * decoded to its UTF-8 bytes, once; one whose number is no Char of XML 1.0, as &#0; and &#xD800;, to U+FFFD (EF BF BD).
  * Anything else stays as it is.
  *
+ * CODES. A scanned plan holds bytes for characters that could not be read. An opening and a search take up to 8 such codes:
+ * `codes` has a byte for each, `sets` 32 bytes for each, in the same order, where bit x % 8, the lowest being 0, of byte
+ * x / 8 stands for x. A code byte in the decoded text fits a position when its set and the position's share a byte, each
+ * place by itself; any other byte fits when it is in the position's set. So a code in a rule's own set counts for nothing.
+ * Fold does nothing to codes and their sets. Without codes both lengths are 0.
+ *
  * LENDER'S DUTIES. A call is lent slices, each a pointer and a length in entries:
  *
  *   - each slice is memory of the length named, aligned for its entries;
@@ -24,7 +30,7 @@
  *   - nobody else touches the slices until the call returns;
  *   - a pointer may be NULL where its length is 0.
  *
- * Nothing else is asked: whatever the bytes and numbers in them, a call returns a finished result or one of the twelve
+ * Nothing else is asked: whatever the bytes and numbers in them, a call returns a finished result or one of the thirteen
  * refusals below. A call keeps no pointer, allocates nothing and has no other state than what it is lent, so calls on
  * different slices may run at the same time.
  *
@@ -45,7 +51,8 @@ extern "C" {
 #define JAZHUPPE_VERSION "1.0.0"
 
 /* The refusals. 1 and 2 come first, then the leftmost of 3 to 7 (an element's own fault before 7), then 8.
- * A call on a whole text checks the rule, then 10, then 9. A scan call checks 11, 12, 10, 9. */
+ * An opening checks the rule, then 15, then 11; a call on a whole text the rule, then 15, 10, 9; a scan call 11, 12, 10, 9.
+ * No call gives 13 or 14. */
 #define JAZHUPPE_RULE_EMPTY 1    /* rule of length 0; place 0 */
 #define JAZHUPPE_RULE_LONG 2     /* rule over 1,023 bytes; place 1,023 */
 #define JAZHUPPE_CLASS 3         /* class unclosed, empty, with a reversed range, a bad \ or misplaced -, or left with
@@ -59,10 +66,15 @@ extern "C" {
 #define JAZHUPPE_TOO_MUCH 10     /* more than 4,294,967,295 bytes in the text, or in all the pieces */
 #define JAZHUPPE_IMPOSSIBLE 11   /* impossible scan value */
 #define JAZHUPPE_FINISHED 12     /* scan already finished */
+#define JAZHUPPE_CODES 15        /* more than 8 codes, sets not of 32 bytes for each code, a code named twice, a set
+                                    empty or with a code in it, or a position whose set, folded, is of codes alone;
+                                    place 0 */
 
 /* The limits. */
 #define JAZHUPPE_RULE_MOST 1023          /* bytes of a rule */
 #define JAZHUPPE_POSITIONS_MOST 255      /* positions of a rule */
+#define JAZHUPPE_CODES_MOST 8            /* codes of an opening or a search */
+#define JAZHUPPE_SET_BYTES 32            /* bytes of a code's set */
 #define JAZHUPPE_TEXT_MOST 4294967295u   /* bytes of a text, or of all the pieces of a plan */
 #define JAZHUPPE_SCAN_WORDS 1045         /* the length of a scan value */
 #define JAZHUPPE_HELD_MOST 31            /* bytes that a scan holds back between pieces */
@@ -96,9 +108,10 @@ typedef struct {
 /* Looks at a rule. Refusals 1 to 8. */
 jazhuppe_prepared jazhuppe_prepare(const uint8_t *rule, size_t rule_len, uint32_t fold);
 
-/* Opens a scan: writes the scan value, whole, whatever stood there.
- * Refusals 1 to 8, then 11 where scan_len is not JAZHUPPE_SCAN_WORDS. */
-jazhuppe_prepared jazhuppe_open(const uint8_t *rule, size_t rule_len, uint32_t fold, uint64_t *scan, size_t scan_len);
+/* Opens a scan: writes the scan value, whole, whatever stood there. Its feeds read the plan with these codes.
+ * Refusals 1 to 8, 15, then 11 where scan_len is not JAZHUPPE_SCAN_WORDS. */
+jazhuppe_prepared jazhuppe_open(const uint8_t *rule, size_t rule_len, uint32_t fold, const uint8_t *codes,
+                                size_t codes_len, const uint8_t *sets, size_t sets_len, uint64_t *scan, size_t scan_len);
 
 /* Feeds the next piece of the raw plan, of any length and cut anywhere: writes the ends of the occurrences that it
  * completes, each once, rising, and moves the scan value on. A tail that could still grow into a reference is held
@@ -116,20 +129,21 @@ jazhuppe_answer jazhuppe_finish(uint64_t *scan, size_t scan_len, uint32_t *ends,
 jazhuppe_answer jazhuppe_decode(const uint8_t *raw, size_t raw_len, uint8_t *out, size_t out_len);
 
 /* Searches a whole decoded text (it decodes nothing): writes the starts of occurrences, each once, rising. The list
- * needs text_len entries. Refusals 1 to 8, 10, 9. */
-jazhuppe_answer jazhuppe_search(const uint8_t *rule, size_t rule_len, uint32_t fold, const uint8_t *text,
+ * needs text_len entries. Refusals 1 to 8, 15, 10, 9. */
+jazhuppe_answer jazhuppe_search(const uint8_t *rule, size_t rule_len, uint32_t fold, const uint8_t *codes,
+                                size_t codes_len, const uint8_t *sets, size_t sets_len, const uint8_t *text,
                                 size_t text_len, uint32_t *starts, size_t starts_len);
 
-/* Shows the occurrence at a start of a decoded text: the part from the start to the earliest end there. It gives no
- * number: both ends of the span are text_len where the rule is refused, the text is over its limit, the start is past
- * the text, or nothing starts there. */
+/* Shows the occurrence at a start of a decoded text: the part from the start to the earliest end there. It takes no
+ * codes, so that what a search finds by codes alone starts nothing here. It gives no number: both ends of the span are
+ * text_len where the rule is refused, the text is over its limit, the start is past the text, or nothing starts there. */
 jazhuppe_span jazhuppe_show(const uint8_t *rule, size_t rule_len, uint32_t fold, const uint8_t *text, size_t text_len,
                             size_t start);
 
 /* THE SCAN VALUE is JAZHUPPE_SCAN_WORDS numbers. It may be copied, kept and taken up again, in another process too:
  *
- *   0 to 1023     for each byte c, the positions that admit it, in four numbers: bit i of number c + 256 w is position
- *                 64 w + i, counted from 1
+ *   0 to 1023     for each byte c, the positions that it fits, in four numbers: bit i of number c + 256 w is position
+ *                 64 w + i, counted from 1. Nothing else of the codes is kept
  *   1024 to 1027  the repeatable positions, in four numbers, position 64 w + i at bit i of the w-th
  *   1028 to 1031  the optional positions
  *   1032          how many positions, 1 to 255

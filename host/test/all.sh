@@ -39,6 +39,7 @@ try "written cases" build/test/differential - host/test/cases.txt
 try "lister" sh host/test/lister.sh
 for option in -e -s -t; do
     try "program, watched, $option" watched "${PROGRAM:-build/jazhuppe}" "$option" 'Row A&B [0-9]+' host/sample.xml
+    try "program, watched, $option -c" watched "${PROGRAM:-build/jazhuppe}" "$option" -c '1=[02-9]' 'Row A&B [2-9]+' host/sample.xml
 done
 try "command line" sh host/test/cli.sh
 [ "$failed" -eq 0 ] && echo "host tests: all ok"

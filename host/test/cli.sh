@@ -50,6 +50,9 @@ printf 'x\ta\\b\n\001y' > control
 printf 'A&am' > unfinished
 printf 'Caf\303\251 1, Caf&#xE9; 2' > utf8
 printf 'Row A&#0;1, Row A&#xD800;2, Row A&nul;3' > impossible
+printf 'Row A~B 1?\nRow A&amp;B ?2\nRow A&#126;B &#63;3\nRow A?B 14\n' > smudged
+printf '\000a\377b&amp;amp;' > bytes
+printf 'a=b' > equals
 : > empty
 
 # What is found.
@@ -73,6 +76,24 @@ expect "an empty plan, starts" 1 '' '' -s '.' empty
 expect "what is held back at the plan's end" 0 '4\n' '' 'A&am' unfinished
 expect "control bytes in a text" 0 'control:0:x\\ta\\\\b\\n\\x01y\n' '' -t 'x.+y' control
 expect "a rule that begins with -" 1 '' '' -- '-x' three
+
+# Codes.
+expect "codes, ends" 0 '10\n21\n32\n' '' -c '?=[0-9]' -c '~=&' 'Row A&B [0-9][0-9]' smudged
+expect "codes, starts" 0 '0\n11\n22\n' '' -s -c '?=[0-9]' -c '~=[&8]' 'Row A&B [0-9]+' smudged
+expect "codes, texts, to the earliest end" 0 'smudged:0:Row A~B 1\nsmudged:11:Row A&B ?\nsmudged:22:Row A~B ?\n' '' \
+    -t -c '?=[0-9]' -c '~=&' 'Row A&B [0-9]+' smudged
+expect "codes, texts that overlap" 0 'bytes:0:\\x00a\0377\nbytes:1:a\0377\nbytes:2:\0377\n' '' -t -c '0xFF=x' '.*x' bytes
+expect "codes, a text with &amp; in it" 0 'bytes:4:&amp;\n' '' -t -c '?=x' '&amp;' bytes
+expect "no codes" 1 '' '' 'Row A&B [0-9][0-9]' smudged
+expect "one code of two" 0 '21\n' '' -c '?=[0-9]' 'Row A&B [0-9][0-9]' smudged
+expect "a byte that is no code" 0 '40\n' '' 'A[?x]B' smudged
+expect "a code in the rule counts for nothing" 1 '' '' -c '?=[0-9]' 'A[?x]B' smudged
+expect "a set that is turned round" 0 '10\n' '' -c '?=[^?]' '1Z' smudged
+expect "letters and -c joined" 0 '10\n21\n32\n' '' -ic '?=[0-9]' '-c~=&' 'rOW a&b [0-9][0-9]' smudged
+expect "-i does nothing to a set" 0 '7\n18\n29\n40\n' '' -i -c 'A=a' 'b' smudged
+expect "a code as 0xHH" 0 'bytes:0:\\x00a\0377b\n' '' -t -c '0x00=x' -c '0xfF=[yz]' 'xayb' bytes
+expect "= as a code" 0 '3\n' '' -c '==x' 'axb' equals
+expect "eight codes" 0 '10\n' '' -c '1=a' -c '2=a' -c '3=a' -c '4=a' -c '5=a' -c '6=a' -c '~=a' -c '?=z' 'B az' smudged
 input=three
 expect "standard input" 0 '3\n14\n25\n' '' 'Row'
 expect "standard input as -, among files" 0 '-:3\n-:14\n-:25\n' '' 'Row' none -
@@ -80,13 +101,24 @@ expect "standard input, texts" 0 '-:0:Row\n-:11:Row\n-:22:Row\n' '' -t 'Row'
 input=/dev/null
 
 # Trouble.
-usage='usage: jazhuppe [-i] [-e | -s | -t] RULE [FILE...]\n'
+usage='usage: jazhuppe [-i] [-c CODE=SET]... [-e | -s | -t] RULE [FILE...]\n'
 expect "a plan that is not there" 2 'three:3\nthree:14\nthree:25\n' 'jazhuppe: gone: No such file or directory\n' \
     'Row' gone three
 expect "a folder" 2 '' 'jazhuppe: .: Is a directory\n' 'Row' .
 expect "a folder, starts" 2 '' 'jazhuppe: .: Is a directory\n' -s 'Row' .
 expect "no rule" 2 '' "jazhuppe: RULE is missing\n${usage}Try 'jazhuppe --help'.\n"
 expect "no such option" 2 '' "jazhuppe: no such option: -x\n${usage}Try 'jazhuppe --help'.\n" -x 'Row'
+expect "-c without more" 2 '' "jazhuppe: -c needs CODE=SET\n${usage}Try 'jazhuppe --help'.\n" -c
+for code in '?' '' '=' 'é=a' '??=a' '0x1=a' '0xG0=a' '0x0G=a' '0x100=a'; do
+    expect "-c '$code'" 2 '' "jazhuppe: not CODE=SET, with CODE one byte or 0xHH: $code\n${usage}Try 'jazhuppe --help'.\n" \
+        -c "$code" 'Row' three
+done
+for set in ab '[a]b' '{1,2}' '..' 'a?b'; do
+    expect "-c '?=$set'" 2 '' "jazhuppe: SET is not one position of a rule: $set\n${usage}Try 'jazhuppe --help'.\n" \
+        -c "?=$set" 'Row' three
+done
+expect "nine codes" 2 '' "jazhuppe: more than 8 codes: 9=a\n${usage}Try 'jazhuppe --help'.\n" \
+    -c '1=a' -c '2=a' -c '3=a' -c '4=a' -c '5=a' -c '6=a' -c '7=a' -c '8=a' -c '9=a' 'Row' three
 expect "no such long option" 2 '' "jazhuppe: no such option: --fold\n${usage}Try 'jazhuppe --help'.\n" --fold 'Row'
 
 # Refusals, with a caret under the place.
@@ -105,12 +137,21 @@ expect "refused 8" 2 '' 'jazhuppe: refused 8 at 2: the rule admits the empty str
 long=$(printf '%01100d' 0)
 expect "refused 2, the rule in part" 2 '' "jazhuppe: refused 2 at 1023: the rule is over 1,023 bytes
   $(printf '%076d' 0)\n$(printf '%62s' '')^\n" "$long"
+expect "a set refused by 3" 2 '' "jazhuppe: refused 3 at 0: class unclosed, empty, with a reversed range, a bad \\\\ or misplaced -,\
+ or left with no byte\n  [b-a]\n  ^\n" -c '?=[b-a]' 'Row'
+expect "a set refused by 1" 2 '' 'jazhuppe: refused 1 at 0: the rule is empty\n  \n  ^\n' -c '?=' 'Row'
+codes='jazhuppe: refused 15: a code named twice, a SET with a code in it, or a position of the rule that holds codes alone\n'
+expect "refused 15, a code named twice" 2 '' "$codes" -c '?=a' -c '0x3F=b' 'Row' gone
+expect "refused 15, a set with a code in it" 2 '' "$codes" -c '?=.' 'Row' gone
+expect "refused 15, codes alone" 2 '' "$codes" -c 'R=a' 'Row' gone
+expect "codes alone but for fold" 0 '3\n14\n25\n' '' -i -c 'R=r' 'Row' three
+expect "the rule before 15" 2 '' 'jazhuppe: refused 8 at 2: the rule admits the empty string\n  a?\n    ^\n' -c '?=.' 'a?' gone
 
 # Help.
 version=$(sed -n 's/^#define JAZHUPPE_VERSION "\(.*\)"/\1/p' "$header")
 expect "--version" 0 "jazhuppe $version\n" '' --version
 "$program" --help > out
-holds "--help" [ "$? $(head -n 1 out)" = "0 usage: jazhuppe [-i] [-e | -s | -t] RULE [FILE...]" ]
+holds "--help" [ "$? $(head -n 1 out)" = "0 usage: jazhuppe [-i] [-c CODE=SET]... [-e | -s | -t] RULE [FILE...]" ]
 
 # A reference that a piece of 4,096 bytes cuts, at each place in it.
 cut_everywhere() {

@@ -2,6 +2,8 @@
  * `differential [SEED [CASES]]` draws them; `differential - FILE` reads them from lines, each with what it is first:
  *   ? rule, tab, plan          a case of document 01 or an edge, with the plan cut in many ways
  *   ! rule, tab, plan          the same with the fold flag set
+ *                              both with codes where they follow, each a tab, the byte, = and its set, spelt as one
+ *                              position of a rule, or with no byte
  *   = raw, tab, hexadecimal    a text with references and the bytes that it decodes to, by XML 1.0
  * A difference prints the whole case and ends the run. */
 #include <stdarg.h>
@@ -15,12 +17,22 @@
 #include "second.h"
 #include "testing.h"
 
-enum { WORDS = JAZHUPPE_SCAN_WORDS, REFUSALS = JAZHUPPE_FINISHED, RULE_ROOM = JAZHUPPE_RULE_MOST + 80, PLAN_MOST = 1536 };
+enum {
+    WORDS = JAZHUPPE_SCAN_WORDS,
+    REFUSALS = JAZHUPPE_CODES,
+    RULE_ROOM = JAZHUPPE_RULE_MOST + 80,
+    CODES_ROOM = 300,
+    SETS_MOST = JAZHUPPE_CODES_MOST + 3,
+    SETS_ROOM = SETS_MOST * JAZHUPPE_SET_BYTES,
+    PLAN_MOST = 1536
+};
 
 typedef struct {
     uint8_t rule[RULE_ROOM];
     size_t rule_len;
     uint32_t fold;
+    uint8_t codes[CODES_ROOM], sets[SETS_ROOM];
+    size_t codes_len, sets_len;
     uint8_t plan[PLAN_MOST];
     size_t plan_len, plan_most;
     uint8_t text[PLAN_MOST];
@@ -51,7 +63,8 @@ static bool one_in(uint32_t n)
 
 enum { PREPARE, OPEN, FEED, FINISH, DECODE, SEARCH, SHOW, CALLS };
 static const char *const call_names[CALLS] = {"prepare", "open", "feed", "finish", "decode", "search", "show"};
-static unsigned long counts[CALLS][REFUSALS + 1], ends_seen, starts_seen, shown_seen, windows_seen, held_seen, decoded_seen;
+static unsigned long counts[CALLS][REFUSALS + 1], ends_seen, starts_seen, shown_seen, windows_seen, held_seen, decoded_seen,
+    smudged_seen, smudges_seen;
 
 static char asked[16384];
 static size_t asked_len;
@@ -90,6 +103,8 @@ static void different(const char *what)
     printf("DIFFERENCE in %s: seed %llu, case %u\n", what, seed, case_number);
     print_bytes("rule", now.rule, now.rule_len);
     printf("fold: %lu\n", (unsigned long)now.fold);
+    print_bytes("codes", now.codes, now.codes_len);
+    print_bytes("sets", now.sets, now.sets_len);
     print_bytes("plan", now.plan, now.plan_len);
     print_bytes("text", now.text, now.text_len);
     printf("calls, in order:\n%s", asked);
@@ -141,11 +156,11 @@ static void hold_list(int call, const uint32_t *expected, size_t count)
 
 static void hold_lent(void)
 {
-    if (!untouched(&rule_room) || !untouched(&text_room))
+    if (!untouched(&rule_room) || !untouched(&codes_room) || !untouched(&sets_room) || !untouched(&text_room))
         different("what was lent for reading");
 }
 
-/* ---- rules and plans */
+/* ---- rules */
 
 static const uint8_t alphabet[] = {'a', 'b', 'c',  'A',  'B',  'x',  '&',  ';',  '#', '1',
                                    '8', 0,   0xC3, 0xA9, 0xEF, 0xBF, 0xBD, '\n', '-'};
@@ -251,8 +266,91 @@ static void make_rule(void)
             put_byte(any_letter());
     if (now.rule_len > 0 && one_in(25))
         now.rule[below((uint32_t)now.rule_len)] = (uint8_t)below(256);
-    now.read = second_read(now.rule, now.rule_len, now.fold);
 }
+
+/* ---- codes */
+
+static uint8_t *set_byte(size_t k, uint8_t x)
+{
+    return &now.sets[k * JAZHUPPE_SET_BYTES + x / 8];
+}
+
+static void put_in_set(size_t k, uint8_t x)
+{
+    *set_byte(k, x) |= (uint8_t)(1 << x % 8);
+}
+
+static void put_range_in_set(size_t k, uint32_t lo, uint32_t hi)
+{
+    for (uint32_t x = lo; x <= hi; x++)
+        put_in_set(k, (uint8_t)x);
+}
+
+/* Few letters, a range, or every byte, but for the codes; seldom with a code too. */
+static void draw_set(size_t k)
+{
+    uint32_t letters = 1 + below(3), lo = below(256);
+
+    switch (below(8)) {
+    case 0: put_range_in_set(k, 0, 255); break;
+    case 1: put_range_in_set(k, lo, lo + below(256 - lo)); break;
+    case 2: put_in_set(k, one_in(2) ? 0 : 255); break;
+    default:
+        while (letters-- > 0)
+            put_in_set(k, any_letter());
+    }
+    for (size_t i = 0; i < now.codes_len; i++)
+        if (!one_in(80))
+            *set_byte(k, now.codes[i]) &= (uint8_t)~(1 << now.codes[i] % 8);
+}
+
+/* Another than the first so many, which are drawn already; seldom one of them. */
+static uint8_t draw_code(size_t drawn)
+{
+    uint8_t c;
+
+    do {
+        c = one_in(8) ? (uint8_t)(one_in(2) ? 0 : 255) : one_in(3) ? (uint8_t)below(256) : any_letter();
+    } while (memchr(now.codes, c, drawn) != NULL && !one_in(50));
+    return c;
+}
+
+/* None, some, one too many, or seldom many more; and sets for them, seldom of another length. */
+static void draw_codes(void)
+{
+    size_t sets;
+
+    now.codes_len = one_in(3) ? 0 : one_in(6) ? below(JAZHUPPE_CODES_MOST + 2) : 1 + below(one_in(100) ? CODES_ROOM : 3);
+    for (size_t k = 0; k < now.codes_len; k++)
+        now.codes[k] = draw_code(k);
+    sets = now.codes_len < SETS_MOST ? now.codes_len : SETS_MOST;
+    memset(now.sets, 0, sizeof now.sets);
+    for (size_t k = 0; k < sets; k++)
+        draw_set(k);
+    now.sets_len = sets * JAZHUPPE_SET_BYTES;
+    if (one_in(40))
+        now.sets_len = one_in(2) && now.sets_len < SETS_ROOM ? now.sets_len + 1 : below(SETS_ROOM + 1);
+}
+
+/* Reads the rule, and codes for it: most often such as are accepted with it. */
+static void read_with_codes(void)
+{
+    second_rule alone = second_read(now.rule, now.rule_len, now.fold);
+
+    do {
+        draw_codes();
+        now.read = alone;
+        second_read_codes(&now.read, now.codes, now.codes_len, now.sets, now.sets_len);
+    } while (now.read.number == JAZHUPPE_CODES && !one_in(6));
+}
+
+/* A letter, or often one of the codes. */
+static uint8_t any_plan_letter(void)
+{
+    return now.read.codes_count > 0 && one_in(3) ? now.codes[below((uint32_t)now.read.codes_count)] : any_letter();
+}
+
+/* ---- plans */
 
 static void plan_byte(uint8_t c)
 {
@@ -285,12 +383,12 @@ static void plan_spelt(uint8_t c)
         plan_byte(c);
 }
 
-static uint8_t any_of(const second_position *p)
+static uint8_t any_that_fits(size_t i)
 {
-    uint8_t c = any_letter();
+    uint8_t c = any_plan_letter();
 
-    for (int tries = 0; tries < 400 && !p->admits[c]; tries++)
-        c = tries < 40 ? any_letter() : (uint8_t)below(256);
+    for (int tries = 0; tries < 400 && !second_fits(&now.read, i, c); tries++)
+        c = tries < 40 ? any_plan_letter() : (uint8_t)below(256);
     return c;
 }
 
@@ -306,7 +404,7 @@ static void plan_occurrence(void)
         if (one_in(seldom) || (p->optional && one_in(2)))
             continue;
         while (bytes-- > 0)
-            plan_spelt(any_of(p));
+            plan_spelt(any_that_fits(i));
     }
 }
 
@@ -323,12 +421,12 @@ static void plan_part(void)
     if (one_in(3))
         plan_text(parts[below(sizeof parts / sizeof parts[0])]);
     else if (one_in(8))
-        plan_reference(any_letter());
+        plan_reference(any_plan_letter());
     else if (one_in(2))
         plan_occurrence();
     else
         for (uint32_t n = below(6); n > 0; n--)
-            plan_byte(any_letter());
+            plan_byte(any_plan_letter());
 }
 
 static void plan_run(uint8_t c)
@@ -340,7 +438,7 @@ static void plan_run(uint8_t c)
 /* A short plan, or a longer one in which the same byte stands between the parts. */
 static void make_plan(void)
 {
-    uint8_t between = any_letter();
+    uint8_t between = any_plan_letter();
 
     now.plan_len = 0;
     now.plan_most = one_in(30) ? 400 : 64;
@@ -359,7 +457,7 @@ static void make_hostile(void)
     now.rule_len = 0;
     now.fold = 0;
     put_text(rules[below(sizeof rules / sizeof rules[0])]);
-    now.read = second_read(now.rule, now.rule_len, now.fold);
+    read_with_codes();
     now.plan_len = 0;
     now.plan_most = PLAN_MOST;
     while (now.plan_len < now.plan_most) {
@@ -380,13 +478,13 @@ static void make_dense(void)
     now.rule_len = 0;
     now.fold = 0;
     put_text(rule);
-    now.read = second_read(now.rule, now.rule_len, now.fold);
+    read_with_codes();
     for (const char *p = rule; *p; p++)
         if (!strchr(".[]{}?+*-", *p))
             letters[n++] = *p;
     now.plan_most = PLAN_MOST;
     for (now.plan_len = 0; now.plan_len < now.plan_most; now.plan_len++)
-        now.plan[now.plan_len] = (uint8_t)letters[below(n)];
+        now.plan[now.plan_len] = now.read.codes_count > 0 && one_in(8) ? any_plan_letter() : (uint8_t)letters[below(n)];
 }
 
 /* So many positions, of few letters; blocks of optional ones and repeats stand at the borders of words most often. */
@@ -423,13 +521,16 @@ static void make_long(void)
     now.rule_len = 0;
     now.fold = one_in(8);
     put_positions(count);
-    now.read = second_read(now.rule, now.rule_len, now.fold);
+    read_with_codes();
     now.plan_len = 0;
     now.plan_most = 300 + below(400);
     while (now.plan_len < now.plan_most) {
+        size_t before = now.plan_len;
+
         plan_occurrence();
+        /* Of this one alone: the plan of a short rule would else not come to its length. */
         if (one_in(3))
-            now.plan_len -= below((uint32_t)now.plan_len + 1) / 4;
+            now.plan_len -= below((uint32_t)(now.plan_len - before) + 1);
         if (one_in(2))
             plan_part();
         else
@@ -453,6 +554,16 @@ static const uint8_t *lend_rule(void)
     return lend_bytes(&rule_room, now.rule, now.rule_len);
 }
 
+static const uint8_t *lend_codes(void)
+{
+    return lend_bytes(&codes_room, now.codes, now.codes_len);
+}
+
+static const uint8_t *lend_sets(void)
+{
+    return lend_bytes(&sets_room, now.sets, now.sets_len);
+}
+
 /* ---- the scan */
 
 static bool scanning;
@@ -474,7 +585,7 @@ static void expected_value(uint64_t *value)
         size_t word = i / 64, bit = i % 64;
 
         for (size_t c = 0; c < PLANE; c++)
-            value[word * PLANE + c] |= (uint64_t)p->admits[c] << bit;
+            value[word * PLANE + c] |= (uint64_t)second_fits(&plain.rule, i - 1, (uint8_t)c) << bit;
         value[REPEATS + word] |= (uint64_t)p->repeatable << bit;
         value[OPTIONAL + word] |= (uint64_t)p->optional << bit;
         value[STATE + word] |= (uint64_t)filled[i] << bit;
@@ -507,14 +618,18 @@ static void hold_value(void)
 static void try_open(void)
 {
     size_t words = one_in(20) ? WORDS - 1 + 2 * below(2) : WORDS;
-    jazhuppe_prepared expected = second_open(now.rule, now.rule_len, now.fold, &plain);
+    jazhuppe_prepared expected = second_open(now.rule, now.rule_len, now.fold, now.codes, now.codes_len, now.sets,
+                                             now.sets_len, &plain);
     jazhuppe_prepared impossible = {JAZHUPPE_IMPOSSIBLE, 0, 0, 0};
 
     if (expected.number == 0 && words != WORDS)
         expected = impossible;
     scan = lend(&scan_room, words * sizeof *scan);
     note("open, %zu words\n", words);
-    hold_prepared(OPEN, jazhuppe_open(lend_rule(), now.rule_len, now.fold, scan, words), expected);
+    hold_prepared(OPEN,
+                  jazhuppe_open(lend_rule(), now.rule_len, now.fold, lend_codes(), now.codes_len, lend_sets(),
+                                now.sets_len, scan, words),
+                  expected);
     hold_lent();
     scanning = expected.number == 0;
     if (scanning)
@@ -623,12 +738,15 @@ static void try_search(void)
     bool big = one_in(50);
     size_t length = big ? over : now.text_len, list = list_length(now.text_len);
     const uint8_t *text = big ? too_much : lend_bytes(&text_room, now.text, now.text_len);
-    jazhuppe_answer expected =
-        second_search(now.rule, now.rule_len, now.fold, big ? too_much : now.text, length, expected_starts, list);
+    jazhuppe_answer expected = second_search(now.rule, now.rule_len, now.fold, now.codes, now.codes_len, now.sets,
+                                             now.sets_len, big ? too_much : now.text, length, expected_starts, list);
     uint32_t *starts = lend(&list_room, list * sizeof *starts);
 
     note("search of %zu with a list of %zu\n", length, list);
-    hold_answer(SEARCH, jazhuppe_search(lend_rule(), now.rule_len, now.fold, text, length, starts, list), expected);
+    hold_answer(SEARCH,
+                jazhuppe_search(lend_rule(), now.rule_len, now.fold, lend_codes(), now.codes_len, lend_sets(),
+                                now.sets_len, text, length, starts, list),
+                expected);
     hold_list(SEARCH, expected_starts, expected.count);
     hold_lent();
     starts_seen += expected.count;
@@ -654,14 +772,26 @@ static void try_show(void)
     hold_lent();
 }
 
-/* Every call on the rule and the plan of now. */
+static void count_smudges(void)
+{
+    smudged_seen += now.read.codes_count > 0;
+    for (size_t i = 0; i < now.text_len; i++)
+        smudges_seen += now.read.codes_count > 0 && memchr(now.codes, now.text[i], now.codes_len) != NULL;
+}
+
+/* Every call on the rule, the codes and the plan of now. */
 static void try_case(void)
 {
     asked_len = 0;
     asked[0] = '\0';
     lent_in_front = one_in(2);
+    /* So that each room has a slice to look at, also where the first call is lent none of it. */
+    lend_codes();
+    lend_sets();
+    lend(&text_room, 0);
     now.text_len = second_decoded(now.plan, now.plan_len, now.text);
     decoded_seen += now.text_len < now.plan_len;
+    count_smudges();
     note("prepare\n");
     hold_prepared(PREPARE, jazhuppe_prepare(lend_rule(), now.rule_len, now.fold),
                   second_prepare(now.rule, now.rule_len, now.fold));
@@ -682,6 +812,7 @@ static void draw_case(void)
         make_long();
     } else {
         make_rule();
+        read_with_codes();
         make_plan();
     }
     try_case();
@@ -692,12 +823,54 @@ static void draw_case(void)
 /* So often is a plan cut anew that each place of it is a cut at least once. */
 enum { CUTS = 60, LINE_ROOM = 4096 };
 
-static void try_often(const char *rule, uint32_t fold, const char *plan)
+/* The code, =, and its set, which the second implementation reads as a rule; of no length, it is empty. */
+static void take_written_code(const char *written)
+{
+    size_t k = now.codes_len;
+    second_rule set;
+
+    if (written[0] == '\0' || written[1] != '=' || k == SETS_MOST)
+        different("a written code");
+    set = second_read((const uint8_t *)written + 2, strlen(written + 2), 0);
+    if (set.number > JAZHUPPE_RULE_EMPTY || set.count > 1)
+        different("a written set");
+    now.codes[now.codes_len++] = (uint8_t)written[0];
+    now.sets_len = now.codes_len * JAZHUPPE_SET_BYTES;
+    for (int c = 0; c < 256; c++)
+        if (set.positions[0].admits[c])
+            put_in_set(k, (uint8_t)c);
+}
+
+/* Where a tab ends what is written, or the line does: what comes after the tab, or NULL. */
+static char *cut_at_tab(char *written)
+{
+    char *tab = strchr(written, '\t');
+
+    if (tab != NULL)
+        *tab++ = '\0';
+    return tab;
+}
+
+static void take_written_codes(char *written)
+{
+    now.codes_len = now.sets_len = 0;
+    memset(now.sets, 0, sizeof now.sets);
+    while (written != NULL) {
+        char *rest = cut_at_tab(written);
+
+        take_written_code(written);
+        written = rest;
+    }
+}
+
+static void try_often(const char *rule, uint32_t fold, const char *plan, char *codes)
 {
     now.rule_len = 0;
     now.fold = fold;
     put_text(rule);
     now.read = second_read(now.rule, now.rule_len, now.fold);
+    take_written_codes(codes);
+    second_read_codes(&now.read, now.codes, now.codes_len, now.sets, now.sets_len);
     now.plan_len = 0;
     now.plan_most = PLAN_MOST;
     plan_text(plan);
@@ -724,17 +897,16 @@ static bool decodes_to(const char *raw, const char *hexadecimal)
 
 static void try_line(char *line)
 {
-    char *tab = strchr(line, '\t');
+    char *second = cut_at_tab(line), *codes = second == NULL ? NULL : cut_at_tab(second);
 
-    if (tab == NULL)
+    if (second == NULL)
         different("a line without a tab");
-    *tab++ = '\0';
-    if (line[0] == '=' && !decodes_to(line + 1, tab))
+    if (line[0] == '=' && !decodes_to(line + 1, second))
         different("a published reference");
     if (line[0] == '=')
-        try_often(".", 0, line + 1);
+        try_often(".", 0, line + 1, NULL);
     else if (line[0] == '?' || line[0] == '!')
-        try_often(line + 1, line[0] == '!', tab);
+        try_often(line + 1, line[0] == '!', second, codes);
     else
         different("a line that begins otherwise");
 }
@@ -766,6 +938,7 @@ static void print_counts(void)
         putchar('\n');
     }
     printf("plans with references %lu, calls that held bytes back %lu\n", decoded_seen, held_seen);
+    printf("cases with codes %lu, code bytes in their texts %lu\n", smudged_seen, smudges_seen);
     printf("ends %lu, starts %lu, shown %lu, windows %lu\n", ends_seen, starts_seen, shown_seen, windows_seen);
 }
 
@@ -779,6 +952,8 @@ int main(int argc, char **argv)
         cases = (unsigned)strtoul(argv[2], NULL, 10);
     source = random_from(seed);
     rule_room = lent_room(RULE_ROOM);
+    codes_room = lent_room(CODES_ROOM);
+    sets_room = lent_room(SETS_ROOM);
     text_room = lent_room(PLAN_MOST);
     scan_room = lent_room((WORDS + 1) * sizeof(uint64_t));
     list_room = lent_room((JAZHUPPE_FEED_LIST(PLAN_MOST) + JAZHUPPE_FINISH_LIST) * sizeof(uint32_t));

@@ -23,7 +23,7 @@ static uint64_t *open_scan(const char *rule)
 {
     uint64_t *scan = lend(&scan_room, WORDS * sizeof *scan);
 
-    CHECK(jazhuppe_open((const uint8_t *)rule, strlen(rule), 0, scan, WORDS).number == 0);
+    CHECK(jazhuppe_open((const uint8_t *)rule, strlen(rule), 0, NO_CODES, scan, WORDS).number == 0);
     lent_anew(&scan_room);
     return scan;
 }
@@ -35,9 +35,9 @@ static void test_whole_text(void)
     void *list = lend(&list_room, 9 * sizeof(uint32_t));
     jazhuppe_span shown = jazhuppe_show(rule, 1, 0, text, over, 0);
 
-    CHECK(answers(jazhuppe_search(rule, 2, 0, text, over, list, 9), JAZHUPPE_ADMITS_EMPTY, 2));
-    CHECK(answers(jazhuppe_search(rule, 1, 0, text, over, list, 9), JAZHUPPE_TOO_MUCH, 0));
-    CHECK(answers(jazhuppe_search(rule, 1, 0, text, most, list, 9), JAZHUPPE_TOO_SHORT, 0));
+    CHECK(answers(jazhuppe_search(rule, 2, 0, NO_CODES, text, over, list, 9), JAZHUPPE_ADMITS_EMPTY, 2));
+    CHECK(answers(jazhuppe_search(rule, 1, 0, NO_CODES, text, over, list, 9), JAZHUPPE_TOO_MUCH, 0));
+    CHECK(answers(jazhuppe_search(rule, 1, 0, NO_CODES, text, most, list, 9), JAZHUPPE_TOO_SHORT, 0));
     CHECK(answers(jazhuppe_decode(text, over, list, 9), JAZHUPPE_TOO_MUCH, 0));
     CHECK(answers(jazhuppe_decode(text, most, list, 9), JAZHUPPE_TOO_SHORT, 0));
     CHECK(shown.from == over && shown.to == over);
@@ -51,10 +51,35 @@ static void test_long_lists(void)
     size_t bytes = over * sizeof(uint32_t);
     void *text = untouchable_memory(over), *list = untouchable_memory(bytes);
 
-    CHECK(answers(jazhuppe_search((const uint8_t *)"a", 1, 0, text, over, list, over), JAZHUPPE_TOO_MUCH, 0));
+    CHECK(answers(jazhuppe_search((const uint8_t *)"a", 1, 0, NO_CODES, text, over, list, over), JAZHUPPE_TOO_MUCH, 0));
     CHECK(answers(jazhuppe_decode(text, over, list, over), JAZHUPPE_TOO_MUCH, 0));
     munmap(text, over);
     munmap(list, bytes);
+}
+
+/* The rule, then 15, then 10; no byte of the text, and none of codes or sets that are too many, is touched. */
+static void test_codes(void)
+{
+    const uint8_t *text = untouchable_memory(over), *many = untouchable_memory(over + JAZHUPPE_SET_BYTES);
+    const uint8_t *rule = (const uint8_t *)"a?", *code = (const uint8_t *)"!";
+    void *list = lend(&list_room, 9 * sizeof(uint32_t));
+    uint64_t *scan = lend(&scan_room, WORDS * sizeof *scan);
+    size_t set = JAZHUPPE_SET_BYTES;
+
+    CHECK(answers(jazhuppe_search(rule, 2, 0, many, 9, many, 9 * set, text, over, list, 9), JAZHUPPE_ADMITS_EMPTY, 2));
+    CHECK(answers(jazhuppe_search(rule, 1, 0, many, 9, many, 9 * set, text, over, list, 9), JAZHUPPE_CODES, 0));
+    CHECK(answers(jazhuppe_search(rule, 1, 0, many, 9, NULL, 0, text, over, list, 9), JAZHUPPE_CODES, 0));
+    CHECK(answers(jazhuppe_search(rule, 1, 0, code, 1, many, set - 1, text, over, list, 9), JAZHUPPE_CODES, 0));
+    /* Cut to 32 bits, these lengths are 0, 1 and 32. */
+    CHECK(answers(jazhuppe_search(rule, 1, 0, many, over, NULL, 0, text, most, list, 9), JAZHUPPE_CODES, 0));
+    CHECK(answers(jazhuppe_search(rule, 1, 0, many, over + 1, many, set, text, most, list, 9), JAZHUPPE_CODES, 0));
+    CHECK(answers(jazhuppe_search(rule, 1, 0, code, 1, many, over + set, text, most, list, 9), JAZHUPPE_CODES, 0));
+    CHECK(jazhuppe_open(rule, 1, 0, many, over, NULL, 0, scan, WORDS).number == JAZHUPPE_CODES);
+    CHECK(jazhuppe_open(rule, 1, 0, NULL, 0, many, over, scan, WORDS).number == JAZHUPPE_CODES);
+    CHECK(jazhuppe_open(rule, 1, 0, code, 1, many, over + set, scan, WORDS).number == JAZHUPPE_CODES);
+    CHECK(untouched(&list_room) && untouched(&scan_room));
+    munmap((void *)text, over);
+    munmap((void *)many, over + JAZHUPPE_SET_BYTES);
 }
 
 /* One piece over the limit; and the needed length, JAZHUPPE_FEED_LIST, is not cut to 32 bits. */
@@ -116,7 +141,7 @@ static void test_longest(void)
     jazhuppe_answer a;
 
     memcpy(text + most - 3, "A12", 3);
-    a = jazhuppe_search((const uint8_t *)"A[0-9]+", 7, 0, text, most, places, most);
+    a = jazhuppe_search((const uint8_t *)"A[0-9]+", 7, 0, NO_CODES, text, most, places, most);
     CHECK(a.number == 0 && a.count == 1 && places[0] == most - 3);
     a = jazhuppe_feed(scan, WORDS, text, most, places, list);
     CHECK(a.number == 0 && a.count == 2 && places[0] == most - 1 && places[1] == most);
@@ -130,6 +155,7 @@ int main(void)
     list_room = lent_room(1024);
     run("10: a text over the limit, after the rule and before 9, untouched", test_whole_text);
     run("10: with lists that are long enough", test_long_lists);
+    run("15: before 10, and lengths that are not cut to 32 bits", test_codes);
     run("10: a piece over the limit; 9 just below it", test_piece);
     run("10: the last bytes of a plan, one by one", test_last_bytes);
     run("10: held bytes at the limit", test_last_held);

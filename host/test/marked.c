@@ -1,4 +1,5 @@
-/* marked.c: the requirement's marked table, its lister example, the fold, and the header's constants, through the header. */
+/* marked.c: the requirement's marked table, its lister example, the fold, codes, and the header's constants, through the
+ * header. */
 #include <ctype.h>
 #include <stdio.h>
 #include <string.h>
@@ -51,10 +52,38 @@ static const uint8_t *lend_rule(const char *rule)
     return lend_bytes(&rule_room, rule, strlen(rule));
 }
 
+/* What every opening and search here is lent beside its rule. */
+static code_list named;
+static uint32_t fold;
+
+static jazhuppe_prepared open_named(const uint8_t *rule, size_t length, uint64_t *scan)
+{
+    const uint8_t *codes = lend_bytes(&codes_room, named.codes, named.codes_len);
+    const uint8_t *sets = lend_bytes(&sets_room, named.sets, named.sets_len);
+    jazhuppe_prepared p = jazhuppe_open(rule, length, fold, codes, named.codes_len, sets, named.sets_len, scan,
+                                        JAZHUPPE_SCAN_WORDS);
+
+    CHECK(untouched(&codes_room) && untouched(&sets_room));
+    return p;
+}
+
+/* The list has an entry for each byte of the text. */
+static jazhuppe_answer search_named(const uint8_t *rule, size_t length, const uint8_t *text, size_t text_len,
+                                    uint32_t *list)
+{
+    const uint8_t *codes = lend_bytes(&codes_room, named.codes, named.codes_len);
+    const uint8_t *sets = lend_bytes(&sets_room, named.sets, named.sets_len);
+    jazhuppe_answer a = jazhuppe_search(rule, length, fold, codes, named.codes_len, sets, named.sets_len, text, text_len,
+                                        list, text_len);
+
+    CHECK(untouched(&codes_room) && untouched(&sets_room));
+    return a;
+}
+
 static uint64_t *open_scan(const char *rule)
 {
     uint64_t *scan = lend(&scan_room, JAZHUPPE_SCAN_WORDS * sizeof *scan);
-    jazhuppe_prepared p = jazhuppe_open(lend_rule(rule), strlen(rule), 0, scan, JAZHUPPE_SCAN_WORDS);
+    jazhuppe_prepared p = open_named(lend_rule(rule), strlen(rule), scan);
 
     CHECK(p.number == 0 && p.place == 0);
     CHECK(untouched(&rule_room));
@@ -133,7 +162,7 @@ static void search_marked(const marked *m)
     places starts = {0, {0}};
     uint32_t *list = lend(&list_room, length * sizeof *list);
     const uint8_t *text = lend_bytes(&text_room, m->text, length), *rule = lend_rule(m->rule);
-    jazhuppe_answer a = jazhuppe_search(rule, strlen(m->rule), 0, text, length, list, length);
+    jazhuppe_answer a = search_named(rule, strlen(m->rule), text, length, list);
 
     CHECK(m->windows == NOT_MARKED || a.windows == (uint32_t)m->windows);
     a.windows = 0;
@@ -474,13 +503,294 @@ static void test_padded_and_short(void)
     search_marked(m);
 }
 
+/* ---- codes */
+
+/* A row of the scan and the search alone, as nothing is shown by codes. Its codes are words, a code and then its set. */
+typedef struct {
+    const char *codes;
+    uint32_t fold;
+    const char *rule, *text;
+    places ends, starts;
+    int windows;
+} smudged;
+
+static const smudged smudged_table[] = {
+    /* Each place by itself. */
+    {"?ab", 0, "ab", "??", {1, {2}}, {1, {0}}, 1},
+    {"?ab", 0, "ab", "???", {2, {2, 3}}, {2, {0, 1}}, 2},
+    {"?ab ~ab", 0, "ab", "?~", {1, {2}}, {1, {0}}, 1},
+    {"?a ~b", 0, "ab", "~??~", {1, {4}}, {1, {2}}, 3},
+    {"?0123456789 ~&8", 0, "Row A&B [0-9]+", "Row A~B ?2;", {2, {9, 10}}, {1, {0}}, 1},
+    /* A code in a rule's own set counts for nothing. */
+    {"?b", 0, "[?a]", "?a", {1, {2}}, {1, {1}}, 2},
+    {"?a", 0, "[?a]", "?a", {2, {1, 2}}, {2, {0, 1}}, 2},
+    {"?a", 0, "[^?]", "?a", {2, {1, 2}}, {2, {0, 1}}, 2},
+    {"?a", 0, "[^a]", "?ab", {1, {3}}, {1, {2}}, 3},
+    {"?ab", 0, "[^a]", "?ab", {2, {1, 3}}, {2, {0, 2}}, 3},
+    {"?a", 0, "[^?a]", "?ab", {1, {3}}, {1, {2}}, 3},
+    {"?b", 0, ".", "?", {1, {1}}, {1, {0}}, 1},
+    /* A byte that a set holds is still itself. */
+    {"?b", 0, "a", "?ab", {1, {2}}, {1, {1}}, 3},
+    /* Repeats, optional positions and gaps. */
+    {"?a", 0, "a+", "a?a", {3, {1, 2, 3}}, {3, {0, 1, 2}}, 3},
+    {"?bc", 0, "ab?c", "a??", {2, {2, 3}}, {1, {0}}, 1},
+    {"?a", 0, "xa*y", "x??ay", {1, {5}}, {1, {0}}, 2},
+    {"?-", 0, "{1,2}a", "??a", {1, {3}}, {2, {0, 1}}, 2},
+    /* Windows 0, 1 and 3: a code in a window shortens the move from it. */
+    {"?abc", 0, "abc", "a??abc", {2, {3, 6}}, {2, {0, 3}}, 3},
+    {"?x", 0, "abc", "a??abc", {1, {6}}, {1, {3}}, 2},
+    /* The fold flag widens the rule, and neither the codes nor their sets: {a} would else hold the code A. */
+    {"?A", 0, "a", "?aA", {1, {2}}, {1, {1}}, 3},
+    {"?A", 1, "a", "?aA", {3, {1, 2, 3}}, {3, {0, 1, 2}}, 3},
+    {"Ax", 1, "x", "AaX", {2, {1, 3}}, {2, {0, 2}}, 3},
+    {"Aa", 1, "A", "Aa", {2, {1, 2}}, {2, {0, 1}}, 2},
+    {"Ab", 1, "A", "Aa", {1, {2}}, {1, {1}}, 2},
+    /* As many as there may be, each with a set of its own. */
+    {"1a 2b 3c 4d 5e 6f 7g 8h", 0, "abcdefgh", "12345678", {1, {8}}, {1, {0}}, 1},
+    {"1a 2b 3c 4d 5e 6f 7g 8h", 0, "abcdefgh", "12345687", {0, {0}}, {0, {0}}, 1},
+};
+
+static void name_nothing(void)
+{
+    named = no_codes();
+    fold = 0;
+}
+
+static void name(uint8_t code, const char *set)
+{
+    name_code(&named, code, set, strlen(set));
+}
+
+static void name_words(const char *words)
+{
+    while (*words != '\0') {
+        size_t length = strcspn(words, " ");
+
+        name_code(&named, (uint8_t)words[0], words + 1, length - 1);
+        words += length + (words[length] == ' ');
+    }
+}
+
+/* With the codes that are named, by both searches. */
+static void hold_both(const char *rule, const char *text, places ends, places starts, int windows)
+{
+    marked m = {"codes", rule, text, 0, 0, ends, starts, windows, {0, {0}}};
+
+    scan_every_way(rule, text, &ends);
+    search_marked(&m);
+}
+
+static void test_codes(void)
+{
+    for (size_t i = 0; i < sizeof smudged_table / sizeof smudged_table[0]; i++) {
+        const smudged *m = &smudged_table[i];
+
+        about("%s in %s, codes %s", m->rule, m->text, m->codes);
+        name_words(m->codes);
+        fold = m->fold;
+        hold_both(m->rule, m->text, m->ends, m->starts, m->windows);
+        name_nothing();
+    }
+}
+
+/* A reference that decodes to a code byte, a code byte in a character of UTF-8, and & itself as a code. */
+static void test_codes_decoded(void)
+{
+    name('?', "b");
+    occurs("xb", "x?", 2);
+    occurs("xb", "x&#63;", 2);
+    occurs("xb", "x&#x3F;", 2);
+    occurs("xb", "x&#000000000000000000000000063;", 2);
+    name(0xA9, "b");
+    occurs("\xC3" "b", "&#xE9;", 2);
+    name('&', "b");
+    occurs("xb", "x&amp;", 2);
+    occurs("xbamp", "x&amp;amp", 5);
+    occurs("xb", "x&", 2);
+    occurs("xbam", "x&am", 4);
+    name_nothing();
+}
+
+/* Whether a rule of one byte occurs in a text of one, by both searches. */
+static bool occurs_alone(uint8_t b, uint8_t text)
+{
+    bool escaped = b != 0 && strchr(".[]{}?+*\\", b) != NULL;
+    const char spelt[] = {'\\', (char)b}, byte = (char)text;
+    const uint8_t *rule = lend_bytes(&rule_room, spelt + !escaped, 1 + escaped);
+    uint64_t *scan = lend(&scan_room, JAZHUPPE_SCAN_WORDS * sizeof *scan);
+    places ends = {0, {0}};
+    jazhuppe_answer a;
+
+    CHECK(open_named(rule, 1 + escaped, scan).number == 0);
+    feed(scan, &byte, 1, &ends);
+    finish(scan, &ends);
+    a = search_named(rule, 1 + escaped, lend_bytes(&text_room, &byte, 1), 1, lend(&list_room, sizeof(uint32_t)));
+    CHECK(a.number == 0 && a.count == ends.count && a.windows == 1);
+    return ends.count == 1;
+}
+
+/* A set of one byte x is bit x % 8 of byte x / 8, and fits a rule of that byte and of no other. */
+static void test_bit_order(void)
+{
+    static const uint8_t bytes[] = {0, 1, 7, 8, 9, 15, 16, 64, 127, 128, 246, 247, 248, 254, 255};
+
+    for (size_t i = 0; i < sizeof bytes; i++) {
+        uint8_t x = bytes[i];
+
+        named.codes_len = 1;
+        named.codes[0] = '~';
+        named.sets_len = JAZHUPPE_SET_BYTES;
+        named.sets[x / 8] = (uint8_t)(1u << x % 8);
+        for (int b = 0; b < 256; b++) {
+            about("a set of %d, a rule of %d", x, b);
+            CHECK(b == '~' || occurs_alone((uint8_t)b, '~') == (b == x));
+        }
+        name_nothing();
+    }
+}
+
+/* Each byte as a code for an a: it stands for that, and not for itself. */
+static void test_each_code(void)
+{
+    for (int c = 0; c < 256; c++) {
+        if (c == 'a' || c == 'b')
+            continue;
+        about("code %d", c);
+        name((uint8_t)c, "a");
+        CHECK(occurs_alone('a', (uint8_t)c) && occurs_alone('a', 'a'));
+        CHECK(!occurs_alone('b', (uint8_t)c) && occurs_alone('b', 'b') && !occurs_alone('b', 'a'));
+        name_nothing();
+    }
+}
+
+static void test_codes_0_and_255(void)
+{
+    const char text[] = {0, (char)255, 'a', (char)255, 0, 'b'};
+    places ends = {0, {0}}, starts = {0, {0}}, marked_ends = {3, {2, 4, 6}}, marked_starts = {3, {0, 2, 4}};
+    uint32_t *list;
+    jazhuppe_answer a;
+
+    name(0, "a");
+    name(255, "b");
+    feed(open_scan("ab"), text, sizeof text, &ends);
+    CHECK(same(&marked_ends, &ends));
+    list = lend(&list_room, sizeof text * sizeof *list);
+    a = search_named(lend_rule("ab"), 2, lend_bytes(&text_room, text, sizeof text), sizeof text, list);
+    CHECK(a.windows == 3);
+    a.windows = 0;
+    add(&starts, a, list);
+    CHECK(same(&marked_starts, &starts));
+    name_nothing();
+}
+
+/* The code A and a rule of A alone: with fold it has an a too. */
+static void test_code_alone(void)
+{
+    uint64_t *scan = lend(&scan_room, JAZHUPPE_SCAN_WORDS * sizeof *scan);
+    uint32_t *list = lend(&list_room, sizeof *list);
+    const uint8_t *rule = lend_rule("A"), *text = lend_bytes(&text_room, "A", 1);
+
+    name('A', "b");
+    CHECK(open_named(rule, 1, scan).number == JAZHUPPE_CODES && untouched(&scan_room));
+    CHECK(search_named(rule, 1, text, 1, list).number == JAZHUPPE_CODES && untouched(&list_room));
+    fold = 1;
+    CHECK(open_named(rule, 1, scan).number == 0 && search_named(rule, 1, text, 1, list).number == 0);
+    name_nothing();
+}
+
+/* JAZHUPPE_CODES_MOST codes are accepted, and one more is not. */
+static void test_codes_most(void)
+{
+    uint64_t *scan = lend(&scan_room, JAZHUPPE_SCAN_WORDS * sizeof *scan);
+
+    while (named.codes_len < JAZHUPPE_CODES_MOST)
+        name((uint8_t)named.codes_len, "a");
+    CHECK(open_named(lend_rule("a"), 1, scan).number == 0);
+    lent_anew(&scan_room);
+    name((uint8_t)named.codes_len, "a");
+    CHECK(open_named(lend_rule("a"), 1, scan).number == JAZHUPPE_CODES && untouched(&scan_room));
+    name_nothing();
+}
+
+/* A rule of so many letters, and a text of them after three other bytes, in which a code stands at one place: for the letter
+ * there it is found, for the next one it is not. */
+static void hold_smudge_at(uint32_t letters, uint32_t at)
+{
+    const places none = {0, {0}}, end = {1, {3 + letters}}, start = {1, {3}};
+    char letter[2] = {(char)('a' + at % 26), '\0'};
+
+    begin();
+    put(long_text, "-", 3);
+    for (uint32_t n = 0; n < letters; n++)
+        put_both((char[]){(char)('a' + n % 26), '\0'}, 1);
+    long_text[3 + at] = '?';
+    about("%lu letters, a code for that at %lu", (unsigned long)letters, (unsigned long)at);
+    name('?', letter);
+    hold_both(long_rule, long_text, end, start, NOT_MARKED);
+    name_nothing();
+    letter[0] = (char)('a' + (at + 1) % 26);
+    about("%lu letters, a code for another at %lu", (unsigned long)letters, (unsigned long)at);
+    name('?', letter);
+    hold_both(long_rule, long_text, none, none, NOT_MARKED);
+    name_nothing();
+}
+
+/* In each word and at its borders, in rules of one word and of four. */
+static void test_codes_in_each_word(void)
+{
+    static const uint32_t lengths[] = {1, 62, 63, 64, 65, 127, 128, 191, 192, 254};
+    static const uint32_t places_of_255[] = {0, 62, 63, 64, 126, 127, 190, 191, 254};
+
+    for (size_t i = 0; i < sizeof lengths / sizeof lengths[0]; i++)
+        hold_smudge_at(lengths[i], lengths[i] - 1);
+    for (size_t i = 0; i < sizeof places_of_255 / sizeof places_of_255[0]; i++)
+        hold_smudge_at(255, places_of_255[i]);
+}
+
+/* Nothing but codes, as many as the rule has letters, and one more. */
+static void test_codes_only(void)
+{
+    static const uint32_t lengths[] = {1, 62, 63, 64, 65, 128, 255};
+
+    name('?', "abcdefghijklmnopqrstuvwxyz");
+    for (size_t i = 0; i < sizeof lengths / sizeof lengths[0]; i++) {
+        const places ends = {2, {lengths[i], lengths[i] + 1}}, starts = {2, {0, 1}};
+
+        begin();
+        for (uint32_t n = 0; n < lengths[i]; n++)
+            put(long_rule, (char[]){(char)('a' + n % 26), '\0'}, 1);
+        put(long_text, "?", lengths[i] + 1);
+        about("%lu letters, codes only", (unsigned long)lengths[i]);
+        hold_both(long_rule, long_text, ends, starts, 2);
+    }
+    name_nothing();
+}
+
+/* What an opening and a prepared rule say of the rule is the same with codes, and show knows none. */
+static void test_codes_and_other_answers(void)
+{
+    uint64_t *scan = lend(&scan_room, JAZHUPPE_SCAN_WORDS * sizeof *scan);
+    const uint8_t *rule = lend_rule("ab?c"), *text = lend_bytes(&text_room, "a?c", 3);
+    jazhuppe_prepared p = jazhuppe_prepare(rule, 4, 0), o;
+    jazhuppe_span s = jazhuppe_show(rule, 4, 0, text, 3, 0);
+
+    name('?', "b");
+    o = open_named(rule, 4, scan);
+    CHECK(o.number == 0 && o.place == 0 && o.positions == p.positions && o.shortest == p.shortest);
+    CHECK(s.from == 3 && s.to == 3);
+    name_nothing();
+}
+
+/* ---- refusals and limits */
+
 static void test_M12(void)
 {
     uint64_t *scan = lend(&scan_room, JAZHUPPE_SCAN_WORDS * sizeof *scan);
     uint32_t *list = lend(&list_room, sizeof *list);
     const uint8_t *text = lend_bytes(&text_room, "a", 1), *rule = lend_rule("a?");
-    jazhuppe_prepared p = jazhuppe_prepare(rule, 2, 0), o = jazhuppe_open(rule, 2, 0, scan, JAZHUPPE_SCAN_WORDS);
-    jazhuppe_answer a = jazhuppe_search(rule, 2, 0, text, 1, list, 1);
+    jazhuppe_prepared p = jazhuppe_prepare(rule, 2, 0);
+    jazhuppe_prepared o = jazhuppe_open(rule, 2, 0, NO_CODES, scan, JAZHUPPE_SCAN_WORDS);
+    jazhuppe_answer a = jazhuppe_search(rule, 2, 0, NO_CODES, text, 1, list, 1);
     jazhuppe_span s = jazhuppe_show(rule, 2, 0, text, 1, 0);
 
     CHECK(p.number == JAZHUPPE_ADMITS_EMPTY && p.place == 2 && p.positions == 0 && p.shortest == 0);
@@ -497,7 +807,7 @@ static void test_scan_words(void)
 
     for (size_t words = JAZHUPPE_SCAN_WORDS - 1; words <= JAZHUPPE_SCAN_WORDS + 1; words++) {
         uint64_t *scan = lend(&scan_room, words * sizeof *scan);
-        jazhuppe_prepared p = jazhuppe_open(rule, 1, 0, scan, words);
+        jazhuppe_prepared p = jazhuppe_open(rule, 1, 0, NO_CODES, scan, words);
 
         CHECK(p.number == (words == JAZHUPPE_SCAN_WORDS ? 0 : JAZHUPPE_IMPOSSIBLE));
         CHECK(p.number == 0 ? p.positions == 1 : untouched(&scan_room));
@@ -564,9 +874,9 @@ static void test_whole_lists(void)
     uint32_t *starts = lend(&list_room, 4 * sizeof *starts);
     uint8_t *out;
 
-    CHECK(jazhuppe_search(rule, 1, 0, text, 4, starts, 4).count == 4);
+    CHECK(jazhuppe_search(rule, 1, 0, NO_CODES, text, 4, starts, 4).count == 4);
     starts = lend(&list_room, 3 * sizeof *starts);
-    CHECK(jazhuppe_search(rule, 1, 0, text, 4, starts, 3).number == JAZHUPPE_TOO_SHORT);
+    CHECK(jazhuppe_search(rule, 1, 0, NO_CODES, text, 4, starts, 3).number == JAZHUPPE_TOO_SHORT);
     out = lend(&list_room, 4);
     CHECK(jazhuppe_decode(text, 4, out, 4).count == 4);
     out = lend(&list_room, 3);
@@ -620,8 +930,8 @@ static void folds(const char *rule, size_t length, int b, bool turned)
     for (int c = 0; c < 256; c++)
         bytes[c] = (uint8_t)c;
     about("byte %d as %.*s", b, (int)length, rule);
-    a = jazhuppe_search(lend_bytes(&rule_room, rule, length), length, 1, lend_bytes(&text_room, bytes, sizeof bytes),
-                        sizeof bytes, starts, sizeof bytes);
+    a = jazhuppe_search(lend_bytes(&rule_room, rule, length), length, 1, NO_CODES,
+                        lend_bytes(&text_room, bytes, sizeof bytes), sizeof bytes, starts, sizeof bytes);
     for (int c = 0; c < 256; c++)
         if ((c == b || c == other) != turned)
             CHECK(found < a.count && starts[found++] == (uint32_t)c);
@@ -665,6 +975,15 @@ static void run_all(void)
     run("ends inside one reference", test_inside_one_reference);
     run("misspelled references stay", test_no_forms);
     run("a padded plan and a short one", test_padded_and_short);
+    run("codes: scan and search", test_codes);
+    run("codes in the decoded plan", test_codes_decoded);
+    run("codes: the order of a set's bits", test_bit_order);
+    run("codes: each byte", test_each_code);
+    run("codes 0 and 255", test_codes_0_and_255);
+    run("codes: a position of codes alone, and the fold flag", test_code_alone);
+    run("codes: one in each word of a long rule", test_codes_in_each_word);
+    run("codes: a text of nothing else", test_codes_only);
+    run("codes: what a rule comes to, and what is shown", test_codes_and_other_answers);
     run("M12: the empty string is admitted", test_M12);
     run("an empty piece reports no end", test_empty_piece);
     run("the fold flag with each of the 256 bytes", test_fold);
@@ -674,6 +993,7 @@ static void run_all(void)
     run("a search's list and a decoder's buffer", test_whole_lists);
     run("JAZHUPPE_RULE_MOST", test_rule_most);
     run("JAZHUPPE_POSITIONS_MOST", test_positions_most);
+    run("JAZHUPPE_CODES_MOST", test_codes_most);
 }
 
 int main(void)

@@ -57,7 +57,8 @@ static bool same_prepared(jazhuppe_prepared p, uint32_t number, uint32_t place)
     return p.number == number && p.place == place && p.positions == 0 && p.shortest == 0;
 }
 
-/* Through prepare, open, search and show; open and search are lent too little besides, which comes later. */
+/* Through prepare, open, search and show; open and search are lent too little besides, or a code without a set, which come
+ * later. */
 static void refuses(const uint8_t *bytes, size_t length, uint32_t fold, uint32_t number, uint32_t place)
 {
     const uint8_t *rule = lend_bytes(&rule_room, bytes, length), *text = lend_bytes(&text_room, "abc", 3);
@@ -66,10 +67,12 @@ static void refuses(const uint8_t *bytes, size_t length, uint32_t fold, uint32_t
     jazhuppe_span shown = jazhuppe_show(rule, length, fold, text, 3, 0);
 
     CHECK(same_prepared(jazhuppe_prepare(rule, length, fold), number, place));
-    CHECK(same_prepared(jazhuppe_open(rule, length, fold, scan, JAZHUPPE_SCAN_WORDS), number, place));
-    CHECK(same_prepared(jazhuppe_open(rule, length, fold, scan, JAZHUPPE_SCAN_WORDS - 1), number, place));
-    CHECK(same_answer(jazhuppe_search(rule, length, fold, text, 3, starts, 3), refusal(number, place)));
-    CHECK(same_answer(jazhuppe_search(rule, length, fold, text, 3, starts, 2), refusal(number, place)));
+    CHECK(same_prepared(jazhuppe_open(rule, length, fold, NO_CODES, scan, JAZHUPPE_SCAN_WORDS), number, place));
+    CHECK(same_prepared(jazhuppe_open(rule, length, fold, NO_CODES, scan, JAZHUPPE_SCAN_WORDS - 1), number, place));
+    CHECK(same_prepared(jazhuppe_open(rule, length, fold, text, 1, NULL, 0, scan, JAZHUPPE_SCAN_WORDS), number, place));
+    CHECK(same_answer(jazhuppe_search(rule, length, fold, NO_CODES, text, 3, starts, 3), refusal(number, place)));
+    CHECK(same_answer(jazhuppe_search(rule, length, fold, NO_CODES, text, 3, starts, 2), refusal(number, place)));
+    CHECK(same_answer(jazhuppe_search(rule, length, fold, text, 1, NULL, 0, text, 3, starts, 3), refusal(number, place)));
     CHECK(shown.from == 3 && shown.to == 3);
     CHECK(untouched(&rule_room) && untouched(&text_room) && untouched(&scan_room) && untouched(&list_room));
 }
@@ -124,6 +127,170 @@ static void test_accepted_rules(void)
     }
 }
 
+/* ---- 15 */
+
+/* 1 to 9 are codes, as many as are asked for, each for an a. */
+static code_list some_codes(size_t count)
+{
+    code_list list = no_codes();
+
+    for (size_t k = 0; k < count; k++)
+        name_code(&list, (uint8_t)('1' + k), "a", 1);
+    return list;
+}
+
+/* The text for a search with codes. */
+static const char smudged[] = "abc";
+enum { SMUDGED = 3 };
+
+/* By an opening and a search, also where these are lent too little besides, which comes later: all by this number, and
+ * everything lent is as before. Or neither is refused, where the number is 0, but for that. */
+static void codes_come_to(const char *bytes, uint32_t fold, const code_list *list, uint32_t number)
+{
+    size_t length = strlen(bytes), n = list->codes_len, m = list->sets_len;
+    const uint8_t *rule = lend_bytes(&rule_room, bytes, length), *text = lend_bytes(&text_room, smudged, SMUDGED);
+    const uint8_t *codes = lend_bytes(&codes_room, list->codes, n), *sets = lend_bytes(&sets_room, list->sets, m);
+    uint64_t *scan = lend(&scan_room, JAZHUPPE_SCAN_WORDS * sizeof *scan);
+    uint32_t *starts = lend(&list_room, SMUDGED * sizeof *starts);
+    uint32_t short_scan = number == 0 ? JAZHUPPE_IMPOSSIBLE : number, short_list = number == 0 ? JAZHUPPE_TOO_SHORT : number;
+
+    CHECK(same_prepared(jazhuppe_open(rule, length, fold, codes, n, sets, m, scan, JAZHUPPE_SCAN_WORDS - 1), short_scan, 0));
+    CHECK(same_prepared(jazhuppe_open(rule, length, fold, codes, n, sets, m, NULL, 0), short_scan, 0));
+    CHECK(same_answer(jazhuppe_search(rule, length, fold, codes, n, sets, m, text, SMUDGED, starts, SMUDGED - 1),
+                      refusal(short_list, 0)));
+    CHECK(untouched(&scan_room) && untouched(&list_room));
+    CHECK(jazhuppe_open(rule, length, fold, codes, n, sets, m, scan, JAZHUPPE_SCAN_WORDS).number == number);
+    CHECK(jazhuppe_search(rule, length, fold, codes, n, sets, m, text, SMUDGED, starts, SMUDGED).number == number);
+    CHECK(number == 0 || (untouched(&scan_room) && untouched(&list_room)));
+    CHECK(untouched(&rule_room) && untouched(&codes_room) && untouched(&sets_room) && untouched(&text_room));
+}
+
+/* The place and the counts of a refusal by 15 are 0. */
+static void test_codes_answer(void)
+{
+    code_list list = some_codes(1);
+    const uint8_t *rule = lend_bytes(&rule_room, "x1", 2), *text = lend_bytes(&text_room, "xa", 2);
+    const uint8_t *codes = lend_bytes(&codes_room, list.codes, 1), *sets = lend_bytes(&sets_room, list.sets, 32);
+    uint64_t *scan = lend(&scan_room, JAZHUPPE_SCAN_WORDS * sizeof *scan);
+    uint32_t *starts = lend(&list_room, 2 * sizeof *starts);
+
+    CHECK(same_prepared(jazhuppe_open(rule, 2, 0, codes, 1, sets, 32, scan, JAZHUPPE_SCAN_WORDS), JAZHUPPE_CODES, 0));
+    CHECK(same_answer(jazhuppe_search(rule, 2, 0, codes, 1, sets, 32, text, 2, starts, 2), refusal(JAZHUPPE_CODES, 0)));
+    CHECK(untouched(&scan_room) && untouched(&list_room));
+}
+
+/* Up to 8 are accepted; 9 are not, nor are more with any sets. */
+static void test_codes_most(void)
+{
+    code_list list;
+
+    for (size_t count = 0; count <= 9; count++) {
+        list = some_codes(count);
+        about("%zu codes", count);
+        codes_come_to("abc", 0, &list, count <= JAZHUPPE_CODES_MOST ? 0 : JAZHUPPE_CODES);
+    }
+    list.sets_len = 8 * JAZHUPPE_SET_BYTES;
+    codes_come_to("abc", 0, &list, JAZHUPPE_CODES);
+    list.codes_len = sizeof list.codes;
+    for (size_t k = 0; k < list.codes_len; k++)
+        list.codes[k] = (uint8_t)k;
+    codes_come_to("abc", 0, &list, JAZHUPPE_CODES);
+    list.sets_len = 0;
+    codes_come_to("abc", 0, &list, JAZHUPPE_CODES);
+    /* As many as a byte counts none of. */
+    list.codes_len = 256;
+    codes_come_to("abc", 0, &list, JAZHUPPE_CODES);
+}
+
+/* Sets without codes, codes without sets, and every other length. */
+static void test_sets_length(void)
+{
+    for (size_t count = 0; count <= JAZHUPPE_CODES_MOST; count++) {
+        code_list list = some_codes(count);
+
+        for (list.sets_len = 0; list.sets_len <= sizeof list.sets; list.sets_len++) {
+            about("%zu codes, %zu bytes of sets", count, list.sets_len);
+            codes_come_to("abc", 0, &list, list.sets_len == count * JAZHUPPE_SET_BYTES ? 0 : JAZHUPPE_CODES);
+        }
+    }
+}
+
+/* Each two of eight codes alike, which are accepted otherwise. */
+static void test_code_twice(void)
+{
+    for (size_t k = 0; k < JAZHUPPE_CODES_MOST; k++)
+        for (size_t i = 0; i < k; i++) {
+            code_list list = some_codes(JAZHUPPE_CODES_MOST);
+
+            list.codes[k] = list.codes[i];
+            about("codes %zu and %zu are alike", i, k);
+            codes_come_to("abc", 0, &list, JAZHUPPE_CODES);
+        }
+}
+
+/* The set of each of eight codes empty, and each holding each of them. */
+static void test_sets(void)
+{
+    for (size_t k = 0; k < JAZHUPPE_CODES_MOST; k++) {
+        code_list list = some_codes(JAZHUPPE_CODES_MOST);
+        uint8_t *set = list.sets + k * JAZHUPPE_SET_BYTES;
+
+        for (size_t i = 0; i < JAZHUPPE_CODES_MOST; i++) {
+            uint8_t *byte = &set[list.codes[i] / 8], before = *byte;
+
+            *byte |= (uint8_t)(1 << list.codes[i] % 8);
+            about("set %zu holds code %zu", k, i);
+            codes_come_to("abc", 0, &list, JAZHUPPE_CODES);
+            *byte = before;
+        }
+        about("set %zu is empty", k);
+        memset(set, 0, JAZHUPPE_SET_BYTES);
+        codes_come_to("abc", 0, &list, JAZHUPPE_CODES);
+    }
+}
+
+/* With the codes ?, A and 0, each for a b. After fold, an A stands for an a too. */
+static void test_codes_alone(void)
+{
+    static const struct {
+        const char *rule;
+        uint32_t fold, number;
+    } rows[] = {
+        {"A", 0, 15}, {"A", 1, 0}, {"[A]", 0, 15}, {"[A-A]", 1, 0}, {"a", 0, 0}, {"[?A]", 0, 15}, {"[?A]", 1, 0},
+        {"[?Ax]", 0, 0}, {"\\?", 0, 15}, {"\\?", 1, 15}, {"x\\?", 0, 15}, {"\\?x", 1, 15}, {"x\\??", 0, 15}, {"x\\?*", 1, 15},
+        {"x[?]+", 0, 15}, {"xA?", 0, 15}, {"xA?", 1, 0}, {"[^?]", 0, 0}, {"[^?A]", 0, 0}, {".", 0, 0}, {"{1,9}", 0, 0},
+        {"[^\x01->@C-\xFF]", 0, 0}, {"[^\x01->@B-\xFF]", 0, 15}, {"{1,99}{1,99}{1,56}A", 0, 15}, {"{1,99}{1,99}{1,56}A", 1, 0},
+        {"{1,63}A", 0, 15}, {"{1,62}A", 0, 15}, {"A{1,99}{1,99}{1,56}", 0, 15},
+    };
+    code_list list = no_codes();
+
+    name_code(&list, '?', "b", 1);
+    name_code(&list, 'A', "b", 1);
+    name_code(&list, 0, "b", 1);
+    for (size_t i = 0; i < sizeof rows / sizeof rows[0]; i++) {
+        about("rule %s, fold %lu, codes ?, A and 0", rows[i].rule, (unsigned long)rows[i].fold);
+        codes_come_to(rows[i].rule, rows[i].fold, &list, rows[i].number);
+    }
+}
+
+/* NULL with length 0 where there are codes and no sets, or sets and no codes. */
+static void test_null_codes(void)
+{
+    code_list list = some_codes(1);
+    const uint8_t *rule = lend_bytes(&rule_room, "a", 1), *codes = lend_bytes(&codes_room, list.codes, 1);
+    const uint8_t *sets = lend_bytes(&sets_room, list.sets, 32);
+    uint64_t *scan = lend(&scan_room, JAZHUPPE_SCAN_WORDS * sizeof *scan);
+
+    CHECK(same_prepared(jazhuppe_open(rule, 1, 0, codes, 1, NULL, 0, scan, JAZHUPPE_SCAN_WORDS), JAZHUPPE_CODES, 0));
+    CHECK(same_prepared(jazhuppe_open(rule, 1, 0, NULL, 0, sets, 32, scan, JAZHUPPE_SCAN_WORDS), JAZHUPPE_CODES, 0));
+    CHECK(same_answer(jazhuppe_search(rule, 1, 0, codes, 1, NULL, 0, NULL, 0, NULL, 0), refusal(JAZHUPPE_CODES, 0)));
+    CHECK(same_answer(jazhuppe_search(rule, 1, 0, NULL, 0, sets, 32, NULL, 0, NULL, 0), refusal(JAZHUPPE_CODES, 0)));
+    CHECK(same_answer(jazhuppe_search(rule, 1, 0, codes, 1, sets, 32, NULL, 0, NULL, 0), refusal(0, 0)));
+    CHECK(untouched(&scan_room) && untouched(&codes_room) && untouched(&sets_room));
+}
+
+/* ---- lists, scans */
+
 /* 9: a search's list and a decoder's buffer, of every length that is too short. */
 static void test_short_whole(void)
 {
@@ -131,7 +298,7 @@ static void test_short_whole(void)
 
     for (size_t length = 0; length < 8; length++) {
         uint32_t *starts = lend(&list_room, length * sizeof *starts);
-        jazhuppe_answer a = jazhuppe_search(rule, 1, 0, text, 8, starts, length);
+        jazhuppe_answer a = jazhuppe_search(rule, 1, 0, NO_CODES, text, 8, starts, length);
         uint8_t *out;
 
         CHECK(same_answer(a, refusal(JAZHUPPE_TOO_SHORT, 0)) && untouched(&list_room));
@@ -147,7 +314,7 @@ static uint64_t *open_scan(const char *bytes)
     uint64_t *scan = lend(&scan_room, JAZHUPPE_SCAN_WORDS * sizeof *scan);
     const uint8_t *rule = lend_bytes(&rule_room, bytes, strlen(bytes));
 
-    CHECK(jazhuppe_open(rule, strlen(bytes), 0, scan, JAZHUPPE_SCAN_WORDS).number == 0);
+    CHECK(jazhuppe_open(rule, strlen(bytes), 0, NO_CODES, scan, JAZHUPPE_SCAN_WORDS).number == 0);
     lent_anew(&scan_room);
     return scan;
 }
@@ -192,7 +359,7 @@ static void test_finished(void)
     both_refuse(JAZHUPPE_SCAN_WORDS, 3, JAZHUPPE_FEED_LIST(3), JAZHUPPE_FINISH_LIST, JAZHUPPE_FINISHED);
     both_refuse(JAZHUPPE_SCAN_WORDS, 0, JAZHUPPE_FEED_LIST(0), JAZHUPPE_FINISH_LIST, JAZHUPPE_FINISHED);
     both_refuse(JAZHUPPE_SCAN_WORDS, 3, 0, 0, JAZHUPPE_FINISHED);
-    CHECK(jazhuppe_open(rule_room.slice, 1, 0, scan, JAZHUPPE_SCAN_WORDS).number == 0);
+    CHECK(jazhuppe_open(rule_room.slice, 1, 0, NO_CODES, scan, JAZHUPPE_SCAN_WORDS).number == 0);
     CHECK(jazhuppe_finish(scan, JAZHUPPE_SCAN_WORDS, ends, JAZHUPPE_FINISH_LIST).number == 0);
 }
 
@@ -227,8 +394,8 @@ static void test_null(void)
     jazhuppe_span shown = jazhuppe_show(rule, 1, 0, NULL, 0, 0);
 
     CHECK(same_prepared(jazhuppe_prepare(NULL, 0, 0), JAZHUPPE_RULE_EMPTY, 0));
-    CHECK(same_prepared(jazhuppe_open(NULL, 0, 0, NULL, 0), JAZHUPPE_RULE_EMPTY, 0));
-    CHECK(same_prepared(jazhuppe_open(rule, 1, 0, NULL, 0), JAZHUPPE_IMPOSSIBLE, 0));
+    CHECK(same_prepared(jazhuppe_open(NULL, 0, 0, NO_CODES, NULL, 0), JAZHUPPE_RULE_EMPTY, 0));
+    CHECK(same_prepared(jazhuppe_open(rule, 1, 0, NO_CODES, NULL, 0), JAZHUPPE_IMPOSSIBLE, 0));
     CHECK(same_answer(jazhuppe_feed(NULL, 0, NULL, 0, NULL, 0), refusal(JAZHUPPE_IMPOSSIBLE, 0)));
     CHECK(same_answer(jazhuppe_finish(NULL, 0, NULL, 0), refusal(JAZHUPPE_IMPOSSIBLE, 0)));
     CHECK(same_answer(jazhuppe_feed(scan, JAZHUPPE_SCAN_WORDS, NULL, 0, NULL, 0), refusal(JAZHUPPE_TOO_SHORT, 0)));
@@ -237,9 +404,9 @@ static void test_null(void)
     CHECK(same_answer(jazhuppe_finish(scan, JAZHUPPE_SCAN_WORDS, NULL, 0), refusal(JAZHUPPE_TOO_SHORT, 0)));
     CHECK(same_answer(jazhuppe_decode(NULL, 0, NULL, 0), refusal(0, 0)));
     CHECK(same_answer(jazhuppe_decode(text, 1, NULL, 0), refusal(JAZHUPPE_TOO_SHORT, 0)));
-    CHECK(same_answer(jazhuppe_search(NULL, 0, 0, NULL, 0, NULL, 0), refusal(JAZHUPPE_RULE_EMPTY, 0)));
-    CHECK(same_answer(jazhuppe_search(rule, 1, 0, NULL, 0, NULL, 0), refusal(0, 0)));
-    CHECK(same_answer(jazhuppe_search(rule, 1, 0, text, 1, NULL, 0), refusal(JAZHUPPE_TOO_SHORT, 0)));
+    CHECK(same_answer(jazhuppe_search(NULL, 0, 0, NO_CODES, NULL, 0, NULL, 0), refusal(JAZHUPPE_RULE_EMPTY, 0)));
+    CHECK(same_answer(jazhuppe_search(rule, 1, 0, NO_CODES, NULL, 0, NULL, 0), refusal(0, 0)));
+    CHECK(same_answer(jazhuppe_search(rule, 1, 0, NO_CODES, text, 1, NULL, 0), refusal(JAZHUPPE_TOO_SHORT, 0)));
     CHECK(shown.from == 0 && shown.to == 0);
     shown = jazhuppe_show(NULL, 0, 0, NULL, 0, 7);
     CHECK(shown.from == 0 && shown.to == 0);
@@ -265,6 +432,13 @@ static void run_all(void)
     run("2 of a rule, before any other fault", test_long_rules);
     run("3: a class left with no byte, and the fold flag", test_classes_left_empty);
     run("rules that pass", test_accepted_rules);
+    run("15: its answer, place 0", test_codes_answer);
+    run("15: more than 8 codes", test_codes_most);
+    run("15: sets that are not 32 bytes for each code", test_sets_length);
+    run("15: a code named twice", test_code_twice);
+    run("15: a set that is empty or holds a code", test_sets);
+    run("15: a position that holds codes alone", test_codes_alone);
+    run("15: NULL with length 0", test_null_codes);
     run("9: a search's list, a decoder's buffer", test_short_whole);
     run("9: a feed's and a finish's list", test_short_scan);
     run("12: a finished scan", test_finished);

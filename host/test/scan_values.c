@@ -39,7 +39,7 @@ static void finishes(const uint64_t *value)
 /* An opened scan that has taken 100 bytes and holds none back. */
 static void usual(uint64_t *value)
 {
-    jazhuppe_prepared p = jazhuppe_open((const uint8_t *)"a", 1, 0, value, WORDS);
+    jazhuppe_prepared p = jazhuppe_open((const uint8_t *)"a", 1, 0, NO_CODES, value, WORDS);
 
     CHECK(p.number == 0);
     value[RAW] = value[DECODED] = 100;

@@ -225,6 +225,106 @@ second_rule second_read(const uint8_t *rule, size_t rule_len, uint32_t fold)
     return read;
 }
 
+/* ---- codes */
+
+/* Bit x % 8, the lowest being 0, of byte x / 8 stands for x. */
+static bool has(const uint8_t *set, int x)
+{
+    return (set[x / 8] >> (x % 8)) % 2 == 1;
+}
+
+static const uint8_t *set_of(const uint8_t *sets, size_t k)
+{
+    return sets + k * JAZHUPPE_SET_BYTES;
+}
+
+static bool is_code(const uint8_t *codes, size_t codes_len, int c)
+{
+    for (size_t k = 0; k < codes_len; k++)
+        if (codes[k] == c)
+            return true;
+    return false;
+}
+
+static bool some_code_twice(const uint8_t *codes, size_t codes_len)
+{
+    for (size_t k = 0; k < codes_len; k++)
+        if (is_code(codes, k, codes[k]))
+            return true;
+    return false;
+}
+
+static bool is_empty(const uint8_t *set)
+{
+    for (int x = 0; x < 256; x++)
+        if (has(set, x))
+            return false;
+    return true;
+}
+
+static bool holds_code(const uint8_t *set, const uint8_t *codes, size_t codes_len)
+{
+    for (size_t k = 0; k < codes_len; k++)
+        if (has(set, codes[k]))
+            return true;
+    return false;
+}
+
+static bool codes_alone(const second_position *p, const uint8_t *codes, size_t codes_len)
+{
+    for (int c = 0; c < 256; c++)
+        if (p->admits[c] && !is_code(codes, codes_len, c))
+            return false;
+    return true;
+}
+
+/* Whether 15 refuses them. The sets are looked at only where they are as long as they must be. */
+static bool codes_refused(const second_rule *rule, const uint8_t *codes, size_t codes_len, const uint8_t *sets,
+                          size_t sets_len)
+{
+    if (codes_len > JAZHUPPE_CODES_MOST || sets_len != codes_len * JAZHUPPE_SET_BYTES || some_code_twice(codes, codes_len))
+        return true;
+    for (size_t k = 0; k < codes_len; k++)
+        if (is_empty(set_of(sets, k)) || holds_code(set_of(sets, k), codes, codes_len))
+            return true;
+    for (size_t i = 0; i < rule->count; i++)
+        if (codes_alone(&rule->positions[i], codes, codes_len))
+            return true;
+    return false;
+}
+
+static bool share_a_byte(const bool *admits, const uint8_t *set)
+{
+    for (int x = 0; x < 256; x++)
+        if (admits[x] && has(set, x))
+            return true;
+    return false;
+}
+
+void second_read_codes(second_rule *rule, const uint8_t *codes, size_t codes_len, const uint8_t *sets, size_t sets_len)
+{
+    if (rule->number != 0)
+        return;
+    if (codes_refused(rule, codes, codes_len, sets, sets_len)) {
+        rule->number = JAZHUPPE_CODES;
+        return;
+    }
+    rule->codes_count = codes_len;
+    for (size_t k = 0; k < codes_len; k++) {
+        rule->codes[k] = codes[k];
+        for (size_t i = 0; i < rule->count; i++)
+            rule->positions[i].code_fits[k] = share_a_byte(rule->positions[i].admits, set_of(sets, k));
+    }
+}
+
+bool second_fits(const second_rule *rule, size_t i, uint8_t c)
+{
+    for (size_t k = 0; k < rule->codes_count; k++)
+        if (rule->codes[k] == c)
+            return rule->positions[i].code_fits[k];
+    return rule->positions[i].admits[c];
+}
+
 /* ---- references */
 
 static const char *const names[] = {"&amp;", "&lt;", "&gt;", "&apos;", "&quot;"};
@@ -375,7 +475,7 @@ static void cut(cutting *c, size_t i, size_t at)
     p = &c->rule->positions[i];
     if (p->optional)
         cut(c, i + 1, at);
-    for (size_t to = at; to < c->length && p->admits[c->text[to]]; to++) {
+    for (size_t to = at; to < c->length && second_fits(c->rule, i, c->text[to]); to++) {
         cut(c, i + 1, to + 1);
         if (!p->repeatable)
             break;
@@ -439,8 +539,8 @@ static size_t ends_over(const second_rule *rule, const uint8_t *text, size_t len
 
 /* ---- windows */
 
-/* Whether the bytes begin some string that the rule admits: some first positions can fill them, as every position
- * admits some byte for what comes after. */
+/* Whether the bytes begin some string that the rule admits: some first positions can fill them, as some byte fits every
+ * position for what comes after. */
 static bool begins(const second_rule *rule, const uint8_t *bytes, size_t length)
 {
     const cutting *c = cuts_from(rule, bytes, length, 0);
@@ -503,10 +603,12 @@ jazhuppe_prepared second_prepare(const uint8_t *rule, size_t rule_len, uint32_t 
     return prepared(&read);
 }
 
-jazhuppe_prepared second_open(const uint8_t *rule, size_t rule_len, uint32_t fold, second_scan *scan)
+jazhuppe_prepared second_open(const uint8_t *rule, size_t rule_len, uint32_t fold, const uint8_t *codes,
+                              size_t codes_len, const uint8_t *sets, size_t sets_len, second_scan *scan)
 {
     second_rule read = second_read(rule, rule_len, fold);
 
+    second_read_codes(&read, codes, codes_len, sets, sets_len);
     if (read.number == 0) {
         scan->rule = read;
         scan->length = 0;
@@ -570,13 +672,15 @@ jazhuppe_answer second_decode(const uint8_t *raw, size_t raw_len, uint8_t *out, 
     return answer(0, 0, second_decoded(raw, raw_len, out), 0);
 }
 
-jazhuppe_answer second_search(const uint8_t *rule, size_t rule_len, uint32_t fold, const uint8_t *text, size_t text_len,
-                              uint32_t *starts, size_t starts_len)
+jazhuppe_answer second_search(const uint8_t *rule, size_t rule_len, uint32_t fold, const uint8_t *codes,
+                              size_t codes_len, const uint8_t *sets, size_t sets_len, const uint8_t *text,
+                              size_t text_len, uint32_t *starts, size_t starts_len)
 {
     second_rule read = second_read(rule, rule_len, fold);
     size_t count = 0;
     uint32_t number = whole_refusal(text_len, starts_len);
 
+    second_read_codes(&read, codes, codes_len, sets, sets_len);
     if (read.number != 0)
         return answer(read.number, read.place, 0, 0);
     if (number != 0)

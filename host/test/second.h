@@ -1,5 +1,5 @@
 /* second.h: a second implementation, straight from the definitions: occurrences by cutting into shares, references by
- * spelling, a scan that keeps all bytes taken. No masks, no states. For small plans. */
+ * spelling, codes by what two sets share, a scan that keeps all bytes taken. No masks, no states. For small plans. */
 #ifndef SECOND_H
 #define SECOND_H
 
@@ -10,14 +10,17 @@
 #include "jazhuppe.h"
 
 typedef struct {
-    bool admits[256];
+    bool admits[256];                    /* the position's own set */
+    bool code_fits[JAZHUPPE_CODES_MOST]; /* for each code, whether its set and the position's share a byte */
     bool optional, repeatable;
 } second_position;
 
 typedef struct {
-    uint32_t number, place; /* 0, or the rule's refusal */
+    uint32_t number, place; /* 0, or the refusal of the rule or its codes */
     size_t count;
     second_position positions[JAZHUPPE_POSITIONS_MOST];
+    size_t codes_count;
+    uint8_t codes[JAZHUPPE_CODES_MOST];
 } second_rule;
 
 enum { SECOND_PLAN_MOST = 2048 };
@@ -32,6 +35,12 @@ typedef struct {
 
 second_rule second_read(const uint8_t *rule, size_t rule_len, uint32_t fold);
 
+/* Reads codes into a rule that is not refused; or it is refused then. */
+void second_read_codes(second_rule *rule, const uint8_t *codes, size_t codes_len, const uint8_t *sets, size_t sets_len);
+
+/* Whether a byte of the text fits the position at `i`, counted from 0. */
+bool second_fits(const second_rule *rule, size_t i, uint8_t c);
+
 /* The bytes at the end that could still grow into a form. */
 size_t second_held(const uint8_t *raw, size_t raw_len);
 
@@ -45,12 +54,14 @@ size_t second_text(const second_scan *scan, uint8_t *out);
 void second_filled(const second_rule *rule, const uint8_t *text, size_t text_len, bool *filled);
 
 jazhuppe_prepared second_prepare(const uint8_t *rule, size_t rule_len, uint32_t fold);
-jazhuppe_prepared second_open(const uint8_t *rule, size_t rule_len, uint32_t fold, second_scan *scan);
+jazhuppe_prepared second_open(const uint8_t *rule, size_t rule_len, uint32_t fold, const uint8_t *codes,
+                              size_t codes_len, const uint8_t *sets, size_t sets_len, second_scan *scan);
 jazhuppe_answer second_feed(second_scan *scan, const uint8_t *piece, size_t piece_len, uint32_t *ends, size_t ends_len);
 jazhuppe_answer second_finish(second_scan *scan, uint32_t *ends, size_t ends_len);
 jazhuppe_answer second_decode(const uint8_t *raw, size_t raw_len, uint8_t *out, size_t out_len);
-jazhuppe_answer second_search(const uint8_t *rule, size_t rule_len, uint32_t fold, const uint8_t *text, size_t text_len,
-                              uint32_t *starts, size_t starts_len);
+jazhuppe_answer second_search(const uint8_t *rule, size_t rule_len, uint32_t fold, const uint8_t *codes,
+                              size_t codes_len, const uint8_t *sets, size_t sets_len, const uint8_t *text,
+                              size_t text_len, uint32_t *starts, size_t starts_len);
 jazhuppe_span second_show(const uint8_t *rule, size_t rule_len, uint32_t fold, const uint8_t *text, size_t text_len,
                           size_t start);
 

@@ -9,6 +9,8 @@
 #include <sys/mman.h>
 #include <unistd.h>
 
+#include "jazhuppe.h"
+
 static char subject[256];
 static unsigned passed, failed;
 static bool holding;
@@ -104,11 +106,13 @@ lent lent_room(size_t most)
     return room;
 }
 
-lent rule_room, text_room, scan_room, list_room;
+lent rule_room, codes_room, sets_room, text_room, scan_room, list_room;
 
 int run_in_small_rooms(const char *program, void (*tests)(void))
 {
     rule_room = lent_room(2048);
+    codes_room = lent_room(512);
+    sets_room = lent_room(512);
     text_room = lent_room(2048);
     scan_room = lent_room(16384);
     list_room = lent_room(8192);
@@ -170,4 +174,25 @@ bool untouched_past(const lent *room, size_t bytes)
 bool untouched(const lent *room)
 {
     return untouched_past(room, 0);
+}
+
+code_list no_codes(void)
+{
+    code_list list;
+
+    memset(&list, 0, sizeof list);
+    return list;
+}
+
+void name_code(code_list *list, uint8_t code, const char *set, size_t bytes)
+{
+    if (list->sets_len + JAZHUPPE_SET_BYTES > sizeof list->sets)
+        abort();
+    for (size_t i = 0; i < bytes; i++) {
+        uint8_t x = (uint8_t)set[i];
+
+        list->sets[list->sets_len + x / 8] |= (uint8_t)(1 << x % 8);
+    }
+    list->codes[list->codes_len++] = code;
+    list->sets_len += JAZHUPPE_SET_BYTES;
 }

@@ -37,7 +37,21 @@ extern bool lent_in_front;
 lent lent_room(size_t most);
 
 /* A room for each slice that a call may be lent. */
-extern lent rule_room, text_room, scan_room, list_room;
+extern lent rule_room, codes_room, sets_room, text_room, scan_room, list_room;
+
+/* What an opening and a search are lent where no codes are named. */
+#define NO_CODES NULL, 0, NULL, 0
+
+/* Codes and their sets, with room for more than may be named. */
+typedef struct {
+    size_t codes_len, sets_len;
+    uint8_t codes[300], sets[320];
+} code_list;
+
+code_list no_codes(void);
+
+/* Adds a code, with a set of so many bytes. */
+void name_code(code_list *list, uint8_t code, const char *set, size_t bytes);
 
 /* Runs the tests on slices that end directly before such a page, and again on slices that begin directly after one. */
 void run_both_ways(void (*tests)(void));

@@ -39,6 +39,10 @@ pub const IMPOSSIBLE: u32 = 11;
 // "scan already finished"
 pub const ALREADY_FINISHED: u32 = 12;
 
+// "there are more than 8 codes, the sets are not 32 bytes for each code, a code is named twice, a set is empty or holds a
+// code, or a position holds codes alone"
+pub const CODES_FAULT: u32 = 15;
+
 // What a call on a scan or on a whole text answers. `windows` is a search's, and 0 in any other answer.
 #[repr(C)]
 pub struct Answer {

@@ -9,13 +9,13 @@ use native.Mathlib.Decide.{decLe, ℕ-discrete}
 use lib.ListN.{length, getD, set, length-set, List·getD-eq-default}
 use lib.Seq.{getD-set-same, getD-set-other}
 use lib.Dec.{eqb, leb}
-use lib.Bits.{bitOr, or-lt}
+use lib.Bits.{bitOr, or-lt, and-le-l}
 use lib.Pow.{pow-lt}
 use borrow.Author.Tests.{eq-eqb, ne-eqb, le-leb, lt-leb, eqb-true, leb-true}
 use Rattle.shift_and.specs.Bit.{bit}
 use Rattle.model.specs.RuleText.{Range, inRanges, otherCase, widened, turnedRound, kindSet, class, someBelow}
-use Rattle.shift_and.proofs.Digits.{not-bit, or-bit, none-bit, no-bits, power-bit}
-use Rattle.byte_set.specs.Sets.{member, addByte, addWhere, addRange, addRanges, none, widen, turn, isEmpty}
+use Rattle.shift_and.proofs.Digits.{not-bit, and-bit, or-bit, none-bit, no-bits, power-bit}
+use Rattle.byte_set.specs.Sets.{member, addByte, addWhere, addRange, addRanges, none, widen, turn, minusWord, minus, isEmpty}
 
 -- ---- one byte added
 
@@ -54,7 +54,7 @@ none-four = record { long = refl; small = each }
     each (suc (suc (suc zero))) = omega arith
     each (suc (suc (suc (suc k)))) = omega arith
 
-add-four : (w : List ℕ) (b : ℕ) → Four w → Four (addByte w b)
+pub add-four : (w : List ℕ) (b : ℕ) → Four w → Four (addByte w b)
 unfolding addByte
 add-four w b f =
     let v = bitOr (getD w (b / 64) 0) (2 ^ (b % 64)) in
@@ -157,7 +157,7 @@ ranges-member (r ∷ rs) w x h l =
     ∙ ap (λ (q : Bool). q || inRanges rs x) (range-member w (r .low) (r .high) x h l)
     ∙ or-assoc (member w x) (leb (r .low) x && leb x (r .high)) (inRanges rs x)
 
-none-member : (x : ℕ) → x < 256 → member none x ≡ false
+pub none-member : (x : ℕ) → x < 256 → member none x ≡ false
 unfolding member
 none-member x l = go (x / 64) (omega arith)
   where
@@ -230,6 +230,36 @@ turn-member true w x h l = go (x / 64) (omega arith)
     go (suc (suc (suc zero))) q = not-bit 64 (getD w 3 0) (x % 64) (h .small 3) (omega arith)
     go (suc (suc (suc (suc k)))) q = absurd (omega arith)
 turn-member false w x h l = refl
+
+-- ---- the bytes of one set that are not in another
+
+pub minus-four : (w v : List ℕ) → Four w → Four (minus w v)
+unfolding minus
+minus-four w v h = record { long = refl; small = each }
+  where
+    small : (k : ℕ) → minusWord w v k < 2 ^ 64
+    small k = omega (arith, h .small k, and-le-l (getD w k 0) (2 ^ 64 - 1 - getD v k 0))
+
+    each : (k : ℕ) → getD (minus w v) k 0 < 2 ^ 64
+    each zero = small 0
+    each (suc zero) = small 1
+    each (suc (suc zero)) = small 2
+    each (suc (suc (suc zero))) = small 3
+    each (suc (suc (suc (suc k)))) = omega arith
+
+pub minus-member : (w v : List ℕ) (x : ℕ) → Four v → x < 256 → member (minus w v) x ≡ (member w x && not (member v x))
+unfolding minus member
+minus-member w v x h l = go (x / 64) (omega arith)
+  where
+    word : (k : ℕ) → bit (minusWord w v k) (x % 64) ≡ (bit (getD w k 0) (x % 64) && not (bit (getD v k 0) (x % 64)))
+    word k = and-bit (getD w k 0) (2 ^ 64 - 1 - getD v k 0) (x % 64) ∙ ap (λ (b : Bool). bit (getD w k 0) (x % 64) && b) (not-bit 64 (getD v k 0) (x % 64) (h .small k) (omega arith))
+
+    go : (k : ℕ) → k < 4 → bit (getD (minus w v) k 0) (x % 64) ≡ (bit (getD w k 0) (x % 64) && not (bit (getD v k 0) (x % 64)))
+    go zero q = word 0
+    go (suc zero) q = word 1
+    go (suc (suc zero)) q = word 2
+    go (suc (suc (suc zero))) q = word 3
+    go (suc (suc (suc (suc k)))) q = absurd (omega arith)
 
 -- ---- the set of a class
 

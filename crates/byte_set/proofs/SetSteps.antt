@@ -12,7 +12,7 @@ use borrow.Author.Tests.{eq-eqb, ne-eqb}
 use Rattle.shift_and.specs.ForwardStep.{topBit}
 use Rattle.shift_and.proofs.Bridge.{top-bit}
 use Rattle.model.specs.RuleText.{otherCase}
-use Rattle.byte_set.specs.Sets.{member, addByte, addWhere, addRange, widen, turn, isEmpty}
+use Rattle.byte_set.specs.Sets.{member, addByte, addWhere, addRange, widen, turn, minusWord, minus, isEmpty}
 
 -- the code's `1 << k` is the power, where k is below 64
 pub one-bit : (c : ℕ) → 1 * 2 ^ (c % 64) % 2 ^ 64 ≡ 2 ^ (c % 64)
@@ -82,7 +82,7 @@ module _ (w₀ : List ℕ) where
         let k : 123 - c ≡ 0 = omega arith in
         rw k at (g .rest)
 
--- ---- `turned_round`, `is_empty`
+-- ---- `turned_round`, `without`, `is_empty`
 pub not-turned : (w : List ℕ) (turned : Bool) → turned ≡ false → w ≡ turn turned w
 unfolding turn
 not-turned w turned e = rw e
@@ -90,6 +90,10 @@ not-turned w turned e = rw e
 pub turned-is : (w : List ℕ) (turned : Bool) → turned ≡ true → (2 ^ 64 - 1 - getD w 0 0) ∷ (2 ^ 64 - 1 - getD w 1 0) ∷ (2 ^ 64 - 1 - getD w 2 0) ∷ (2 ^ 64 - 1 - getD w 3 0) ∷ [] ≡ turn turned w
 unfolding turn
 turned-is w turned e = rw e
+
+pub without-is : (w v : List ℕ) → minusWord w v 0 ∷ minusWord w v 1 ∷ minusWord w v 2 ∷ minusWord w v 3 ∷ [] ≡ minus w v
+unfolding minus
+without-is w v = refl
 
 module _ (w : List ℕ) where
   pub empty-0 : (getD w 0 0 ≡ 0 → ⊥) → false ≡ isEmpty w

@@ -5,7 +5,7 @@ use mathlib.Core.List.{List, [], _∷_}
 use mathlib.Core.Bool.{Bool, true, false, cond}
 use lib.ListN.{getD, set}
 use lib.Dec.{eqb}
-use lib.Bits.{bitOr}
+use lib.Bits.{bitAnd, bitOr}
 use Rattle.shift_and.specs.Bit.{bit}
 use Rattle.model.specs.RuleText.{Range, otherCase}
 
@@ -38,6 +38,13 @@ widen fold w = cond fold (addWhere (λ c. member w (otherCase c)) w 65 58) w
 -- .. and turned round by `^` only after that."
 unfoldable pub turn : (turned : Bool) → List ℕ → List ℕ
 turn turned w = cond turned ((2 ^ 64 - 1 - getD w 0 0) ∷ (2 ^ 64 - 1 - getD w 1 0) ∷ (2 ^ 64 - 1 - getD w 2 0) ∷ (2 ^ 64 - 1 - getD w 3 0) ∷ []) w
+
+-- The bytes of one set that are not in another.
+abbrev pub minusWord : (w v : List ℕ) (k : ℕ) → ℕ
+minusWord w v k = bitAnd (getD w k 0) (2 ^ 64 - 1 - getD v k 0)
+
+unfoldable pub minus : (w v : List ℕ) → List ℕ
+minus w v = minusWord w v 0 ∷ minusWord w v 1 ∷ minusWord w v 2 ∷ minusWord w v 3 ∷ []
 
 unfoldable pub isEmpty : List ℕ → Bool
 isEmpty w = cond (eqb (getD w 0 0) 0) (cond (eqb (getD w 1 0) 0) (cond (eqb (getD w 2 0) 0) (eqb (getD w 3 0) 0) false) false) false

@@ -3,7 +3,7 @@ ghost use mathlib.Core.Path.{_≡_};
 ghost use mathlib.Core.Bool.{true};
 ghost use Prim.Native.Nat.{_≤_, _<_};
 ghost use Rattle.model.specs.RuleText.{otherCase};
-ghost use Rattle.byte_set.specs.Sets.{member, addByte, addRange, widen, turn, isEmpty};
+ghost use Rattle.byte_set.specs.Sets.{member, addByte, addRange, widen, turn, minus, isEmpty};
 
 // The other case of a letter, any other byte itself: "bytes 65 to 90 and 97 to 122 move by 32", which turns bit 5 round.
 pub fn other_case(c: usize) -> u8
@@ -94,6 +94,18 @@ pub fn class_set(ranges: [u64; 4], fold: bool, turned: bool) -> [u64; 4]
 {
     let wide = widened(ranges, fold);
     turned_round(wide, turned)
+}
+
+// The set without the bytes of another.
+pub fn without(set: [u64; 4], other: [u64; 4]) -> [u64; 4]
+    ensures { λ r. ⌜ r ≡ minus set other ⌝ }
+{
+    [
+        set[0] & !other[0],
+        set[1] & !other[1],
+        set[2] & !other[2],
+        set[3] & !other[3],
+    ]
 }
 
 // Whether the set has no byte.

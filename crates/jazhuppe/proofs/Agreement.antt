@@ -1,4 +1,4 @@
--- DEMAND 3, one theorem, `agreement`: for an accepted rule and fold flag, and any list of feeds and finishes as they were made. About the very contracts of `open`,
+-- DEMAND 3, one theorem, `agreement`: for an accepted rule, fold flag and list of codes, and any list of feeds and finishes as they were made. About the very contracts of `open`,
 -- `feed`, `finish` and `search`. Assumes nothing.
 use mathlib.Core.Path.{_≡_, refl, sym, ap, _∙_}
 use mathlib.Core.Bool.{Bool, true, cond}
@@ -10,17 +10,17 @@ use lib.ListN.{length, length-append}
 use borrow.Author.Tests.{eq-eqb, le-ltb}
 use Rattle.model.specs.Occurrence.{Position, ends, starts}
 use Rattle.model.specs.RuleText.{foldFlag, positions}
-use Rattle.model.specs.NumberedAnswers.{textLimit, parse, positionsBy, rulePositions, wholeRefusal, overwrite}
+use Rattle.model.specs.NumberedAnswers.{textLimit, Parsed, positionsBy, wholeRefusal, overwrite}
+use Rattle.model.specs.Codes.{codesOf, fitting, smudged, parseWith}
 use Rattle.model.specs.References.{formLimit}
 use Rattle.model.specs.PlainScan.{Call, feed, finish, Kept, refusal, after, plainScan, nothingKept, keptAfter}
 use Rattle.model.specs.WindowSearch.{windows}
-use Rattle.model.proofs.Accepted.{rule-ok}
+use Rattle.model.proofs.Fitting.{SmudgedOk, smudged-ok, smudged-shift-largest}
 use Rattle.model.proofs.Truth.{branch}
 use Rattle.model.proofs.Decoding.{decode-length}
 use Rattle.model.proofs.Decided as Decided
 use Rattle.model.proofs.FinishedPlan.{plan-ends}
 use Rattle.model.proofs.Windows.{shift-is, windows-are, no-start-passed}
-use Rattle.model.proofs.Moves.{rule-shift-largest}
 use Rattle.answers.specs.declared.Answer.{Answer}
 use Rattle.answers.specs.declared.Opened.{Opened}
 use Rattle.answers.specs.Answers.{refusing, counting}
@@ -53,44 +53,47 @@ plan-small : (cs : List Made) → length (planOf cs) ≤ textLimit
 plan-small cs =
     omega (arith, kept-small (callsOf cs) nothingKept (omega arith), decode-length formLimit (keptAfter formLimit nothingKept (callsOf cs) .taken))
 
-module _ (flag : ℕ) (rule : List ℕ) (bytes : Bytes rule) where
+module _ (flag : ℕ) (rule codes sets : List ℕ) (bytes : Bytes rule) (code-bytes : Bytes codes) where
   abbrev ps : List Position
-  ps = rulePositions (foldFlag flag) rule
+  ps = smudged (foldFlag flag) rule codes sets
 
-  module _ (s₀ : List ℕ) (o : Opened) (s : List ℕ) (opens : OpenIs flag rule s₀ o s) (ok : o .number ≡ 0) where
-    opened : OpenedWith flag rule s
-    opened = opened-with flag rule s₀ o s opens ok
+  module _ (s₀ : List ℕ) (o : Opened) (s : List ℕ) (opens : OpenIs flag rule codes sets s₀ o s) (ok : o .number ≡ 0) where
+    opened : OpenedWith flag rule codes sets s
+    opened = opened-with flag rule codes sets s₀ o s opens ok
+
+    fits-ok : SmudgedOk (foldFlag flag) rule codes sets (opened .elements) bytes (opened .parses)
+    fits-ok = smudged-ok (foldFlag flag) rule codes sets (opened .elements) bytes (opened .parses)
 
     -- a search that is not refused
-    module _ (text list : List ℕ) (small : length text ≤ textLimit) (room : length text ≤ length list) (r : Answer) (list′ : List ℕ) (x : SearchIs flag rule text list r list′) where
+    module _ (text list : List ℕ) (small : length text ≤ textLimit) (room : length text ≤ length list) (r : Answer) (list′ : List ℕ) (x : SearchIs flag rule codes sets text list r list′) where
       taken : eqb (wholeRefusal (length text) (length list)) 0 ≡ true
       taken = eq-eqb (wholeRefusal (length text) (length list)) 0 (rw (le-ltb _ _ small, le-ltb _ _ room))
 
-      by-positions : positions (foldFlag flag) (opened .elements) ≡ ps
-      by-positions = sym (ap (positionsBy (foldFlag flag)) (opened .parses))
+      by-positions : fitting (codesOf codes sets) (positions (foldFlag flag) (opened .elements)) ≡ ps
+      by-positions = sym (ap (λ (p : Parsed). fitting (codesOf codes sets) (positionsBy (foldFlag flag) p)) (fits-ok .parses))
 
       gives : (r ≡ counting (length (starts ps text)) (length (windows ps text))) × (list′ ≡ overwrite list (starts ps text))
       gives =
-          let qs = positions (foldFlag flag) (opened .elements) in (
-            x .answers ∙ ap (searchAnswer flag text (length list)) (opened .parses)
+          let qs = fitting (codesOf codes sets) (positions (foldFlag flag) (opened .elements)) in (
+            x .answers ∙ ap (searchAnswer flag codes sets text (length list)) (opened .parses)
                 ∙ ap (λ (b : Bool). cond b (counting (length (starts qs text)) (length (windows qs text))) (refusing (wholeRefusal (length text) (length list)) 0)) taken
                 ∙ ap (λ (ps : List Position). counting (length (starts ps text)) (length (windows ps text))) by-positions,
-            x .lists ∙ ap (searchList flag text list) (opened .parses) ∙ ap (λ (b : Bool). cond b (overwrite list (starts qs text)) list) taken
+            x .lists ∙ ap (searchList flag codes sets text list) (opened .parses) ∙ ap (λ (b : Bool). cond b (overwrite list (starts qs text)) list) taken
                 ∙ ap (λ (ps : List Position). overwrite list (starts ps text)) by-positions,
           )
 
-    answers : (cs : List Made) → HandedOn s cs → AllAgree cs (plainScan flag rule (callsOf cs))
-    answers = made-is-plain flag rule bytes s₀ o s opens ok
+    answers : (cs : List Made) → HandedOn s cs → AllAgree cs (plainScan flag rule codes sets (callsOf cs))
+    answers = made-is-plain flag rule codes sets bytes code-bytes s₀ o s opens ok
 
     reports : (cs : List Made) → HandedOn s cs → Finished cs → reportedBy cs ≡ ends ps (planOf cs)
     reports cs m f =
         let a = answers cs m in
-        reported-ends cs (plainScan flag rule (callsOf cs)) a
-        ∙ plan-ends flag rule (opened .elements) bytes (opened .parses) (callsOf cs) (finished-is formLimit ps cs nothingKept a f)
+        reported-ends cs (plainScan flag rule codes sets (callsOf cs)) a
+        ∙ plan-ends flag rule codes sets (opened .elements) bytes (opened .parses) (callsOf cs) (finished-is formLimit ps cs nothingKept a f)
 
-  pub agreement : (s₀ : List ℕ) (o : Opened) (s : List ℕ) → OpenIs flag rule s₀ o s → o .number ≡ 0 → Agreement flag rule s (rulePositions (foldFlag flag) rule)
+  pub agreement : (s₀ : List ℕ) (o : Opened) (s : List ℕ) → OpenIs flag rule codes sets s₀ o s → o .number ≡ 0 → Agreement flag rule codes sets s (smudged (foldFlag flag) rule codes sets)
   agreement s₀ o s opens ok =
-      let k = rule-ok (foldFlag flag) rule (opened s₀ o s opens ok .elements) bytes (opened s₀ o s opens ok .parses) in
+      let k = fits-ok s₀ o s opens ok .rule-is in
       record {
         answers = answers s₀ o s opens ok;
         reports = reports s₀ o s opens ok;
@@ -102,10 +105,10 @@ module _ (flag : ℕ) (rule : List ℕ) (bytes : Bytes rule) where
         sequence = windows-are ps (k .inhabited) (k .not-empty);
         shifts = shift-is ps (k .inhabited) (k .not-empty);
         moves = no-start-passed ps (k .inhabited) (k .not-empty);
-        largest-move = rule-shift-largest (foldFlag flag) rule (opened s₀ o s opens ok .elements) bytes (opened s₀ o s opens ok .parses);
+        largest-move = smudged-shift-largest (foldFlag flag) rule codes sets (opened s₀ o s opens ok .elements) bytes (opened s₀ o s opens ok .parses) code-bytes;
         alike = λ t₀ q t x z cs ds m n f g e. reports s₀ o s opens ok cs m f ∙ ap (ends ps) e ∙ sym (reports t₀ q t x z ds n g);
         alike-search = λ cs ds e list r r₂ l l₂ x y. (
-          x .answers ∙ ap (λ (t : List ℕ). searchAnswer flag t (length list) (parse (foldFlag flag) rule)) e ∙ sym (y .answers),
-          x .lists ∙ ap (λ (t : List ℕ). searchList flag t list (parse (foldFlag flag) rule)) e ∙ sym (y .lists),
+          x .answers ∙ ap (λ (t : List ℕ). searchAnswer flag codes sets t (length list) (parseWith (foldFlag flag) rule codes sets)) e ∙ sym (y .answers),
+          x .lists ∙ ap (λ (t : List ℕ). searchList flag codes sets t list (parseWith (foldFlag flag) rule codes sets)) e ∙ sym (y .lists),
         );
       }

@@ -64,10 +64,10 @@ agree (c ∷ cs) s m = go (numberOf s call) refl (agree cs)
         rw (q, runFrom) (a, subst (λ (s : List ℕ). AllAgree cs (runFrom s (callsOf cs))) v (ih (c .value) (m .1)))
 
 -- From what an accepted opening gave.
-pub made-is-plain : (flag : ℕ) (rule : List ℕ) → Bytes rule → (s₀ : List ℕ) (o : Opened) (s : List ℕ) → OpenIs flag rule s₀ o s → o .number ≡ 0
-    → (cs : List Made) → HandedOn s cs → AllAgree cs (plainScan flag rule (callsOf cs))
-made-is-plain flag rule bytes s₀ o s opens ok cs m =
-    subst (AllAgree cs) (scan-is-plain flag rule bytes (callsOf cs) (pieces-are-bytes cs s m) s₀ o s opens ok) (agree cs s m)
+pub made-is-plain : (flag : ℕ) (rule codes sets : List ℕ) → Bytes rule → Bytes codes → (s₀ : List ℕ) (o : Opened) (s : List ℕ) → OpenIs flag rule codes sets s₀ o s → o .number ≡ 0
+    → (cs : List Made) → HandedOn s cs → AllAgree cs (plainScan flag rule codes sets (callsOf cs))
+made-is-plain flag rule codes sets bytes code-bytes s₀ o s opens ok cs m =
+    subst (AllAgree cs) (scan-is-plain flag rule codes sets bytes code-bytes (callsOf cs) (pieces-are-bytes cs s m) s₀ o s opens ok) (agree cs s m)
 
 -- ---- the ends
 

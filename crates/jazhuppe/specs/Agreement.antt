@@ -90,16 +90,17 @@ planOf cs = decode formLimit (keptAfter formLimit nothingKept (callsOf cs) .take
 
 -- ---- the claim
 
--- Of a rule and fold flag, the scan value s that an accepted opening gave for them, and the rule's positions ps.
-pub record Agreement (flag : ℕ) (rule s : List ℕ) (ps : List Position) : Type 0 where
+-- "demand 3 then speaks of one rule, fold flag and list of codes": of these, the scan value s that an accepted opening gave for them, and the rule's positions ps, read
+-- by fit.
+pub record Agreement (flag : ℕ) (rule codes sets s : List ℕ) (ps : List Position) : Type 0 where
   -- "over every list of feeds and finishes, refused ones included, wherever pieces cut the plan, every answer equals the plain scan's"
-  pub answers : (cs : List Made) → HandedOn s cs → AllAgree cs (plainScan flag rule (callsOf cs))
+  pub answers : (cs : List Made) → HandedOn s cs → AllAgree cs (plainScan flag rule codes sets (callsOf cs))
   -- "the scan reports exactly the ends .. of occurrences in the decoded plan", once each, rising
   pub reports : (cs : List Made) → HandedOn s cs → Finished cs → reportedBy cs ≡ ends ps (planOf cs)
   pub an-end : (text : List ℕ) (e : ℕ) → List·Memᴰ e (ends ps text) ↔ EndsAt ps text e
   pub ends-rise : (text : List ℕ) → RisingFrom 0 (ends ps text)
   -- "starts, windows and their count are exactly the defined ones": a search of the finished plan, with a list that is long enough
-  pub search : (cs : List Made) → (list : List ℕ) (r : Answer) (list′ : List ℕ) → SearchIs flag rule (planOf cs) list r list′ → length (planOf cs) ≤ length list
+  pub search : (cs : List Made) → (list : List ℕ) (r : Answer) (list′ : List ℕ) → SearchIs flag rule codes sets (planOf cs) list r list′ → length (planOf cs) ≤ length list
       → (r ≡ counting (length (starts ps (planOf cs))) (length (windows ps (planOf cs))))
       × (list′ ≡ overwrite list (starts ps (planOf cs)))
   pub a-start : (text : List ℕ) (k : ℕ) → List·Memᴰ k (starts ps text) ↔ StartsAt ps text k
@@ -113,8 +114,8 @@ pub record Agreement (flag : ℕ) (rule s : List ℕ) (ps : List Position) : Typ
   -- "for every window and its shift j, the text limit aside, some bytes after the window would give an occurrence starting j bytes past the window's start. With the
   -- base promise, j is then the largest move that can be made on the window's bytes alone."
   pub largest-move : (window : List ℕ) → Bytes window → length window ≡ shortest ps → LargestMove ps window (shift ps window)
-  -- "plans that decode alike get the same answers": from any other accepted opening of the rule, however spelt and cut
-  pub alike : (t₀ : List ℕ) (o : Opened) (t : List ℕ) → OpenIs flag rule t₀ o t → o .number ≡ 0 → (cs ds : List Made) → HandedOn s cs → HandedOn t ds
+  -- "plans that decode alike get the same answers": from any other accepted opening of the rule with these codes, however spelt and cut
+  pub alike : (t₀ : List ℕ) (o : Opened) (t : List ℕ) → OpenIs flag rule codes sets t₀ o t → o .number ≡ 0 → (cs ds : List Made) → HandedOn s cs → HandedOn t ds
       → Finished cs → Finished ds → planOf cs ≡ planOf ds → reportedBy cs ≡ reportedBy ds
   pub alike-search : (cs ds : List Made) → planOf cs ≡ planOf ds → (list : List ℕ) (r r₂ : Answer) (l l₂ : List ℕ)
-      → SearchIs flag rule (planOf cs) list r l → SearchIs flag rule (planOf ds) list r₂ l₂ → (r ≡ r₂) × (l ≡ l₂)
+      → SearchIs flag rule codes sets (planOf cs) list r l → SearchIs flag rule codes sets (planOf ds) list r₂ l₂ → (r ≡ r₂) × (l ≡ l₂)

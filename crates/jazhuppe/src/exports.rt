@@ -4,7 +4,7 @@ ghost use Rattle.scan_open.specs.Opening.{OpenIs};
 ghost use Rattle.scan.specs.Calls.{FeedIs, FinishIs};
 ghost use Rattle.jazhuppe.specs.Preparing.{PrepareIs};
 ghost use Rattle.text_search.specs.Searching.{SearchIs};
-ghost use Rattle.text_search.specs.Showing.{ShownIs};
+ghost use Rattle.text_show.specs.Showing.{ShownIs};
 use answers::Answer;
 use answers::Opened;
 use answers::Span;
@@ -23,12 +23,18 @@ pub extern "C" fn jazhuppe_prepare(rule: &[u8], fold: u32) -> Opened
     }
 }
 
-// Opens a scan for a rule.
+// Opens a scan for a rule with codes.
 #[no_mangle]
-pub extern "C" fn jazhuppe_open(rule: &[u8], fold: u32, scan: &mut [u64]) -> Opened
-    ensures { λ r. ⌜ OpenIs fold (now (rule .entry)) (now (scan .entry)) r (now (scan .exit)) ⌝ }
+pub extern "C" fn jazhuppe_open(
+    rule: &[u8],
+    fold: u32,
+    codes: &[u8],
+    sets: &[u8],
+    scan: &mut [u64],
+) -> Opened
+    ensures { λ r. ⌜ OpenIs fold (now (rule .entry)) (now (codes .entry)) (now (sets .entry)) (now (scan .entry)) r (now (scan .exit)) ⌝ }
 {
-    scan_open::open(rule, fold, scan)
+    scan_open::open(rule, fold, codes, sets, scan)
 }
 
 // Feeds a piece to a scan.
@@ -55,12 +61,19 @@ pub extern "C" fn jazhuppe_decode(raw: &[u8], out: &mut [u8]) -> Answer
     decoder::decode(raw, out)
 }
 
-// Searches a whole decoded text.
+// Searches a whole decoded text for a rule with codes.
 #[no_mangle]
-pub extern "C" fn jazhuppe_search(rule: &[u8], fold: u32, text: &[u8], starts: &mut [u32]) -> Answer
-    ensures { λ r. ⌜ SearchIs fold (now (rule .entry)) (now (text .entry)) (now (starts .entry)) r (now (starts .exit)) ⌝ }
+pub extern "C" fn jazhuppe_search(
+    rule: &[u8],
+    fold: u32,
+    codes: &[u8],
+    sets: &[u8],
+    text: &[u8],
+    starts: &mut [u32],
+) -> Answer
+    ensures { λ r. ⌜ SearchIs fold (now (rule .entry)) (now (codes .entry)) (now (sets .entry)) (now (text .entry)) (now (starts .entry)) r (now (starts .exit)) ⌝ }
 {
-    text_search::search(rule, fold, text, starts)
+    text_search::search(rule, fold, codes, sets, text, starts)
 }
 
 // The part of a text that is shown, as its two places: no reference is returned through this interface.
@@ -68,5 +81,5 @@ pub extern "C" fn jazhuppe_search(rule: &[u8], fold: u32, text: &[u8], starts: &
 pub extern "C" fn jazhuppe_show(rule: &[u8], fold: u32, text: &[u8], start: usize) -> Span
     ensures { λ r. ⌜ ShownIs fold (now (rule .entry)) (now (text .entry)) start r ⌝ }
 {
-    text_search::span(rule, fold, text, start)
+    text_show::span(rule, fold, text, start)
 }

@@ -1,4 +1,4 @@
-// The limits of document 01, each under one name; `model` has the same (`ruleLimit` and so on), and the
+// The limits of document 01 and of the change requests, each under one name; `model` has the same (`ruleLimit` and so on), and the
 // header for a host. No code.
 
 // "A rule is 1 to 1,023 bytes".
@@ -15,3 +15,9 @@ pub const HELD_MOST: usize = FORM_LIMIT - 1;
 
 // "more than 4,294,967,295 bytes in the text, or in all the pieces" are refused.
 pub const TEXT_LIMIT: usize = 4_294_967_295;
+
+// "up to 8 such codes"
+pub const CODES_MOST: usize = 8;
+
+// "a set of bytes, sent as 32 bytes"
+pub const SET_BYTES: usize = 32;

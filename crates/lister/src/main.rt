@@ -138,7 +138,7 @@ fn feed_pieces(scan: &mut [u64], plan: &[u8]) {
 
 fn list_ends(rule: &[u8], plan: &[u8]) {
     let mut scan = [0u64; scan_value::LENGTH];
-    jazhuppe::exports::jazhuppe_open(rule, 0, &mut scan);
+    jazhuppe::exports::jazhuppe_open(rule, 0, b"", b"", &mut scan);
     text(b"ends");
     feed_pieces(&mut scan, plan);
     let mut ends = [0u32; limits::HELD_MOST];
@@ -149,7 +149,7 @@ fn list_ends(rule: &[u8], plan: &[u8]) {
 
 fn list_starts(rule: &[u8], decoded: &[u8]) {
     let mut starts = [0u32; PLAN_LIMIT];
-    let a = jazhuppe::exports::jazhuppe_search(rule, 0, decoded, &mut starts);
+    let a = jazhuppe::exports::jazhuppe_search(rule, 0, b"", b"", decoded, &mut starts);
     text(b"starts");
     reported(a, &starts);
     text(b"\n");

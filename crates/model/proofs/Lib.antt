@@ -8,7 +8,9 @@ pub mod Windows
 pub mod Earliest
 pub mod Accepted
 pub mod Moves
+pub mod Fitting
 pub mod Refusals
+pub mod CodeLaws
 pub mod Forms
 pub mod Borders
 pub mod Decoding

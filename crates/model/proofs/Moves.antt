@@ -11,21 +11,20 @@ use lib.ListN.{length, take, drop, length-append}
 use lib.Seq.{take-length, take-append-seam, drop-length, drop-append-add, drop-append-le}
 use Rattle.model.specs.Occurrence.{Position, all, Occurs, done, next, StartsAt, shortest}
 use Rattle.model.specs.RuleText.{isByte, Element, kindSet, kindPositions, positions}
-use Rattle.model.specs.NumberedAnswers.{Parsed, accepted, parse, positionsBy, rulePositions}
 use Rattle.model.specs.WindowSearch.{windowAt, Begins, EachSet, Inhabited, shift, LargestMove}
 use Rattle.model.proofs.Truth.{and-left}
 use Rattle.model.proofs.Shares.{occurs-to, all-append, all-right, all-mono, share-all}
 use Rattle.model.proofs.Law.{each-append}
 use Rattle.model.proofs.Decided.{empty-begins, beginning-decided}
 use Rattle.model.proofs.Windows.{shift-is, no-start-passed}
-use Rattle.model.proofs.Accepted.{kind-each, rule-ok}
+use Rattle.model.proofs.Accepted.{kind-each}
 
 -- ---- a rule admits strings of bytes alone
 
 abbrev pub OfBytes : (ℕ → Bool) → Type 0
 OfBytes s = (c : ℕ) → T (s c) → T (isByte c)
 
-rule-sets : (fold : Bool) (es : List Element) → EachSet OfBytes (positions fold es)
+pub rule-sets : (fold : Bool) (es : List Element) → EachSet OfBytes (positions fold es)
 rule-sets fold [] = tt
 rule-sets fold (e ∷ es) =
     each-append OfBytes (kindPositions fold (e .kind) (e .often)) (positions fold es)
@@ -92,11 +91,3 @@ module _ (ps : List Position) (inhabited : Inhabited ps) (some : 1 ≤ shortest 
               absurd (s (window ++ b .0) (all-append isByte window (b .0) bytes after) 0 e j least (omega arith) (start-at-shift b [])))
         ];
       }
-
--- For an accepted rule.
-pub rule-shift-largest : (fold : Bool) (rule : List ℕ) (es : List Element) → T (all isByte rule) → parse fold rule ≡ accepted es → (window : List ℕ) → T (all isByte window)
-    → length window ≡ shortest (rulePositions fold rule) → LargestMove (rulePositions fold rule) window (shift (rulePositions fold rule) window)
-rule-shift-largest fold rule es bytes ok window h whole =
-    let k = rule-ok fold rule es bytes ok in
-    let sets : EachSet OfBytes (rulePositions fold rule) = subst (λ (p : Parsed). EachSet OfBytes (positionsBy fold p)) (sym ok) (rule-sets fold es) in
-    shift-largest (rulePositions fold rule) (k .inhabited) (k .not-empty) sets window whole h

@@ -1,19 +1,20 @@
 -- Sentences and edges of document 01 as closed cases of the definitions, by computing: rules that are refused or accepted, references, held tails, the
--- lister's example, a plan cut inside `&amp;`, moves of windows, and what is shown. (M1 to M12 are in `MarkedTable`.) Assumes nothing.
+-- lister's example, a plan cut inside `&amp;`, moves of windows, what is shown, and codes. (M1 to M12 are in `MarkedTable`.) Assumes nothing.
 use mathlib.Core.Path.{_≡_, refl}
 use mathlib.Core.Bool.{Bool, true, false, _&&_}
 use mathlib.Core.List.{List, [], _∷_, _++_, map}
-use Prim.Native.Nat.{ℕ, zero, suc}
+use Prim.Native.Nat.{ℕ, zero, suc, _+_, _*_}
 use lib.Dec.{T, eqb}
 use lib.ListN.{length, replicate}
 use Rattle.model.specs.Ascii.{ascii}
-use Rattle.model.specs.Occurrence.{Position, shortest, isStart, ends, starts}
-use Rattle.model.specs.RuleText.{foldFlag, otherCase, kindSet, class, byte, gap, once, optional, repeatable}
+use Rattle.model.specs.Occurrence.{Position, oneIf, shortest, isStart, ends, starts}
+use Rattle.model.specs.RuleText.{foldFlag, oneOf, otherCase, kindSet, class, byte, gap, once, optional, repeatable}
 use Rattle.model.specs.NumberedAnswers.{accepted, parse, rulePositions, wholeRefusal, overwrite}
+use Rattle.model.specs.Codes.{setBytes, inSet, smudged, parseWith}
 use Rattle.model.specs.References.{formLimit, utf8, byteTokens, tokensFrom, decode, heldTail, outTokens, letOut}
 use Rattle.model.specs.PlainScan.{Call, feed, finish, Answer, refused, reported, refusalFor, plainScan, reportedEnds}
 use Rattle.model.specs.WindowSearch.{shift, windows, shown}
-use Rattle.model.specs.MarkedTable.{same, isRefused}
+use Rattle.model.specs.MarkedTable.{same, isAccepted, isRefused}
 
 -- ---- rules
 
@@ -107,7 +108,7 @@ elements = refl
 turned-last : (kindSet true (class true (record { low = 97; high = 97 } ∷ [])) 97 ≡ false) × (kindSet true (class true (record { low = 97; high = 97 } ∷ [])) 65 ≡ false)
 turned-last = (refl, refl)
 
-folded : reportedEnds (plainScan 256 (ascii "rOw") (feed (ascii "Row row rov") 42 ∷ finish 31 ∷ [])) ≡ 3 ∷ 7 ∷ []
+folded : reportedEnds (plainScan 256 (ascii "rOw") [] [] (feed (ascii "Row row rov") 42 ∷ finish 31 ∷ [])) ≡ 3 ∷ 7 ∷ []
 folded = refl
 
 -- "bytes 65 to 90 and 97 to 122 move by 32, every other byte is itself": at the edges of both alphabets, and bytes that `c ^ 32` or bounds of seven bits
@@ -119,7 +120,7 @@ own-cases : T (same (map otherCase (0 ∷ 32 ∷ 64 ∷ 91 ∷ 96 ∷ 123 ∷ 19
 own-cases = tt
 
 -- "`*` .. both"
-starred : reportedEnds (plainScan 0 (ascii "ab*c") (feed (ascii "ac abbc") 38 ∷ finish 31 ∷ [])) ≡ 2 ∷ 7 ∷ []
+starred : reportedEnds (plainScan 0 (ascii "ab*c") [] [] (feed (ascii "ac abbc") 38 ∷ finish 31 ∷ [])) ≡ 2 ∷ 7 ∷ []
 starred = refl
 
 -- ---- references
@@ -225,7 +226,7 @@ lister = (refl, refl, refl, refl, refl)
 
 -- "Forgetting held bytes at a cut inside `&amp;`": the plan in two pieces, cut there, with a feed that is refused for its short list between them, an
 -- empty piece, and calls after the finish.
-cut-plan : plainScan 0 rule (feed (ascii "Row A&a") 38 ∷ feed (ascii "x") 31 ∷ feed [] 31 ∷ feed (ascii "mp;B 12;") 39 ∷ finish 30 ∷ finish 31 ∷ feed [] 31 ∷ finish 31 ∷ [])
+cut-plan : plainScan 0 rule [] [] (feed (ascii "Row A&a") 38 ∷ feed (ascii "x") 31 ∷ feed [] 31 ∷ feed (ascii "mp;B 12;") 39 ∷ finish 30 ∷ finish 31 ∷ feed [] 31 ∷ finish 31 ∷ [])
     ≡ reported [] ∷ refused 9 ∷ reported [] ∷ reported (9 ∷ 10 ∷ []) ∷ refused 9 ∷ reported [] ∷ refused 12 ∷ refused 12 ∷ []
 unfolding utf8
 cut-plan = refl
@@ -238,13 +239,13 @@ abbrev risingFrom : (from n : ℕ) → List ℕ
 risingFrom from zero = []
 risingFrom from (suc n) = from ∷ risingFrom (suc from) n
 
-ends-of-31-held : plainScan 0 (ascii ".") (feed most 62 ∷ feed (ascii "0") 31 ∷ feed (ascii "0") 32 ∷ feed most 62 ∷ finish 31 ∷ [])
+ends-of-31-held : plainScan 0 (ascii ".") [] [] (feed most 62 ∷ feed (ascii "0") 31 ∷ feed (ascii "0") 32 ∷ feed most 62 ∷ finish 31 ∷ [])
     ≡ reported [] ∷ refused 9 ∷ reported (risingFrom 1 32) ∷ reported [] ∷ reported (risingFrom 33 31) ∷ []
 ends-of-31-held = refl
 
 -- An impossible character in two pieces: a rule of one byte ends inside the reference. "plans that decode alike get the same answers": the mark itself.
 abbrev onlyByte : (c : ℕ) → List Call → List Answer
-onlyByte c = plainScan 0 (c ∷ [])
+onlyByte c = plainScan 0 (c ∷ []) [] []
 
 abbrev impossible : List Call
 impossible = feed (ascii "a&#0") 35 ∷ feed (ascii ";b") 33 ∷ finish 31 ∷ []
@@ -256,7 +257,7 @@ inside-a-reference : (onlyByte 239 impossible ≡ reported [] ∷ reported (2 �
     × (onlyByte 191 impossible ≡ reported [] ∷ reported (3 ∷ []) ∷ reported [] ∷ [])
     × (onlyByte 189 impossible ≡ reported [] ∷ reported (4 ∷ []) ∷ reported [] ∷ [])
     × (decode formLimit (ascii "a&#0;b") ≡ decode formLimit (ascii "a&#65533;b"))
-    × (plainScan 0 (ascii "a.+b") impossible ≡ plainScan 0 (ascii "a.+b") mark-itself)
+    × (plainScan 0 (ascii "a.+b") [] [] impossible ≡ plainScan 0 (ascii "a.+b") [] [] mark-itself)
 unfolding utf8
 inside-a-reference = (refl, refl, refl, refl, refl)
 
@@ -313,3 +314,81 @@ shows = (refl, refl, refl, refl)
 
 lent : overwrite (7 ∷ 7 ∷ 7 ∷ []) (1 ∷ 2 ∷ []) ≡ 1 ∷ 2 ∷ 7 ∷ []
 lent = refl
+
+-- ---- codes
+
+-- 32 bytes for a set: those of its bytes that are given, each in its bit.
+abbrev setFrom : (i n : ℕ) → List ℕ → List ℕ
+setFrom i zero xs = []
+setFrom i (suc n) xs = byteAt i 8 0 xs ∷ setFrom (i + 8) n xs
+  where
+    byteAt : (i n value : ℕ) → List ℕ → ℕ
+    byteAt i zero value xs = value
+    byteAt i (suc n) value xs = byteAt i n (2 * value + oneIf (oneOf xs (i + n))) xs
+
+abbrev setOf : List ℕ → List ℕ
+setOf xs = setFrom 0 setBytes xs
+
+-- the same set for n codes
+abbrev setsOf : (n : ℕ) → List ℕ → List ℕ
+setsOf zero xs = []
+setsOf (suc n) xs = setOf xs ++ setsOf n xs
+
+-- "bit x mod 8, the lowest being 0, of byte x / 8 stands for x"
+set-bits : (setOf (0 ∷ 9 ∷ 255 ∷ []) ≡ 1 ∷ 2 ∷ replicate 29 0 ++ (128 ∷ []))
+    × (inSet (1 ∷ 2 ∷ replicate 29 0 ++ (128 ∷ [])) 0 ≡ true) × (inSet (1 ∷ 2 ∷ replicate 29 0 ++ (128 ∷ [])) 9 ≡ true)
+    × (inSet (1 ∷ 2 ∷ replicate 29 0 ++ (128 ∷ [])) 255 ≡ true) × (inSet (1 ∷ 2 ∷ replicate 29 0 ++ (128 ∷ [])) 7 ≡ false)
+set-bits = (refl, refl, refl, refl, refl)
+
+abbrev question : List ℕ
+question = ascii "?"
+
+data Smudge : Type 0 where
+  finds : (flag : ℕ) (rule codes sets raw : List ℕ) (ends starts : List ℕ) → Smudge
+  refuses : (flag : ℕ) (rule codes sets : List ℕ) (number place : ℕ) → Smudge
+
+abbrev smudgesHold : List Smudge → Bool
+smudgesHold [] = true
+smudgesHold (finds flag rule codes sets raw e s ∷ rest) =
+    let ps = smudged (foldFlag flag) rule codes sets in
+    let text = decode formLimit raw in
+    isAccepted (parseWith (foldFlag flag) rule codes sets) && same e (ends ps text) && same s (starts ps text)
+    && same e (reportedEnds (plainScan flag rule codes sets (feed raw (length raw + 31) ∷ finish 31 ∷ []))) && smudgesHold rest
+smudgesHold (refuses flag rule codes sets n p ∷ rest) = isRefused (parseWith (foldFlag flag) rule codes sets) n p && smudgesHold rest
+
+smudges : T (smudgesHold (
+    finds 0 (ascii "abc") question (setOf (ascii "b")) (ascii "a?cxac") (3 ∷ []) (0 ∷ [])
+    ∷ finds 0 (ascii "ab") question (setOf (ascii "ab")) (ascii "??") (2 ∷ []) (0 ∷ [])  -- each place by itself
+    ∷ finds 0 (ascii "[?a]") question (setOf (ascii "b")) (ascii "?a") (2 ∷ []) (1 ∷ [])  -- a code in a rule's own set counts for nothing
+    ∷ finds 0 (ascii "[^?]") question (setOf (ascii "b")) (ascii "?") (1 ∷ []) (0 ∷ [])
+    ∷ finds 0 (ascii "[^a]") question (setOf (ascii "a")) (ascii "?") [] []
+    ∷ finds 0 (ascii "[^a]") question (setOf (ascii "ab")) (ascii "?") (1 ∷ []) (0 ∷ [])
+    ∷ finds 1 (ascii "A") question (setOf (ascii "a")) (ascii "?") (1 ∷ []) (0 ∷ [])  -- the rule is folded ..
+    ∷ finds 1 (ascii "[^A]") question (setOf (ascii "a")) (ascii "?") [] []
+    ∷ finds 0 (ascii "a") question (setOf (ascii "A")) (ascii "?") [] []  -- .. and a set is not
+    ∷ finds 1 (ascii "A") (ascii "A") (setOf (ascii "b")) (ascii "Aa") (2 ∷ []) (1 ∷ [])
+    ∷ finds 0 (ascii "xb") question (setOf (ascii "b")) (ascii "x&#63;") (2 ∷ []) (0 ∷ [])  -- "in the decoded plan"
+    ∷ finds 0 (ascii ".") (0 ∷ 255 ∷ []) (setOf (1 ∷ []) ++ setOf (254 ∷ [])) (0 ∷ 255 ∷ []) (1 ∷ 2 ∷ []) (0 ∷ 1 ∷ [])
+    ∷ finds 0 (1 ∷ []) (0 ∷ 255 ∷ []) (setOf (1 ∷ []) ++ setOf (254 ∷ [])) (0 ∷ 255 ∷ []) (1 ∷ []) (0 ∷ [])
+    ∷ finds 0 (ascii "a") [] [] (ascii "a") (1 ∷ []) (0 ∷ [])
+    ∷ refuses 0 (ascii "a") [] (0 ∷ []) 15 0  -- the sets are not 32 bytes for each code
+    ∷ refuses 0 (ascii "a") question (replicate 31 1) 15 0
+    ∷ refuses 0 (ascii "a") question (replicate 33 1) 15 0
+    ∷ refuses 0 (ascii "z") (ascii "abcdefghi") (setsOf 9 (ascii "x")) 15 0  -- more than 8 codes
+    ∷ finds 0 (ascii "x") (ascii "abcdefgh") (setsOf 8 (ascii "x")) (ascii "hi") (1 ∷ []) (0 ∷ [])
+    ∷ refuses 0 (ascii "a") (ascii "??") (setOf (ascii "b") ++ setOf (ascii "c")) 15 0  -- named twice
+    ∷ refuses 0 (ascii "a") question (replicate 32 0) 15 0  -- an empty set
+    ∷ refuses 0 (ascii "a") question (setOf (ascii "b?")) 15 0  -- a set that holds a code
+    ∷ refuses 0 (ascii "a") (ascii "?!") (setOf (ascii "b!") ++ setOf (ascii "c")) 15 0
+    ∷ refuses 0 (ascii "a[b!]") (ascii "!b") (setsOf 2 (ascii "x")) 15 0  -- a position holds codes alone ..
+    ∷ refuses 0 (ascii "ab?") (ascii "b") (setOf (ascii "x")) 15 0  -- .. an optional one too
+    ∷ refuses 0 (ascii "A") (ascii "A") (setOf (ascii "b")) 15 0  -- judged after fold: with it `a` is left
+    ∷ refuses 0 (ascii "a?") (ascii "??") [] 8 2  -- "checked next after the rule"
+    ∷ []
+    ))
+unfolding utf8
+smudges = tt
+
+-- "shifts .. read fit in this way"
+smudged-windows : windows (smudged false (ascii "abc") question (setOf (ascii "abc"))) (ascii "a??abc") ≡ 0 ∷ 1 ∷ 3 ∷ []
+smudged-windows = refl

@@ -42,7 +42,7 @@ isRefused (accepted es) number place = false
 
 -- The text fed to the plain scan as one piece, and then finished: all the ends that it reports.
 abbrev pub fed : (rule text : List ℕ) → List ℕ
-fed rule text = reportedEnds (plainScan 0 rule (feed text (length text + heldMost formLimit) ∷ finish (heldMost formLimit) ∷ []))
+fed rule text = reportedEnds (plainScan 0 rule [] [] (feed text (length text + heldMost formLimit) ∷ finish (heldMost formLimit) ∷ []))
 
 abbrev pub holds : Case → Bool
 holds (finds rule text e s w) =

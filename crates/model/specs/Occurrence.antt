@@ -6,7 +6,8 @@ use Prim.Native.Nat.{ℕ, zero, suc, _+_, _-_, _≤_}
 use lib.Dec.{T, leb}
 use lib.ListN.{length, take, drop}
 
--- A position of a rule: the bytes that it admits, whether it is optional, and whether it is repeatable.
+-- A position of a rule: the bytes that fit it, whether it is optional, and whether it is repeatable. Without codes those of its set fit; `Codes` has the reading
+-- with them.
 pub record Position : Type 0 where
   pub set : ℕ → Bool
   pub optional : Bool
@@ -17,7 +18,7 @@ abbrev pub all : (ℕ → Bool) → List ℕ → Bool
 all s [] = true
 all s (c ∷ cs) = s c && all s cs
 
--- "A share is one byte of the position's set; it may be empty if the position is optional; it may be longer, all in the set, if repeatable."
+-- "A share is one byte that fits the position; it may be empty if the position is optional; it may be longer, all such bytes, if repeatable."
 pub data Share (p : Position) : List ℕ → Type 0 where
   one : {c : ℕ} → T (p .set c) → Share p (c ∷ [])
   empty : T (p .optional) → Share p []

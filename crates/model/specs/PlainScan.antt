@@ -7,7 +7,8 @@ use lib.ListN.{length}
 use Rattle.model.specs.Occurrence.{Position, isEnd, allFrom}
 use Rattle.model.specs.RefusalNumbers.{tooShort, tooMuch, alreadyFinished}
 use Rattle.model.specs.RuleText.{foldFlag}
-use Rattle.model.specs.NumberedAnswers.{textLimit, rulePositions}
+use Rattle.model.specs.NumberedAnswers.{textLimit}
+use Rattle.model.specs.Codes.{smudged}
 use Rattle.model.specs.References.{formLimit, heldMost, decode, letOut}
 
 -- "each call's kind, its piece if it is a feed, and its lent list's length: no answer and no scan value"
@@ -72,9 +73,10 @@ scanFrom limit ps k (c ∷ cs) = elim (refusal limit (k .finished) (length (k .t
   | suc n ↦ refused (suc n) ∷ scanFrom limit ps k cs
 ]
 
--- "It is fed the accepted rule (one that no rule check refuses) and fold flag, then each call's kind, its piece if it is a feed, and its lent list's length".
-abbrev pub plainScan : (flag : ℕ) (rule : List ℕ) → List Call → List Answer
-plainScan flag rule cs = scanFrom formLimit (rulePositions (foldFlag flag) rule) nothingKept cs
+-- "It is fed the accepted rule (one that no rule check refuses) and fold flag, and beside them the accepted codes and their sets, then each call's kind, its piece if
+-- it is a feed, and its lent list's length".
+abbrev pub plainScan : (flag : ℕ) (rule codes sets : List ℕ) → List Call → List Answer
+plainScan flag rule codes sets cs = scanFrom formLimit (smudged (foldFlag flag) rule codes sets) nothingKept cs
 
 -- "The ends reported are those of all the calls in order."
 abbrev pub reportedEnds : List Answer → List ℕ

@@ -48,3 +48,7 @@ impossible = 11
 -- "scan already finished"
 abbrev pub alreadyFinished : ℕ
 alreadyFinished = 12
+
+-- "there are more than 8 codes, the sets are not 32 bytes for each code, a code is named twice, a set is empty or holds a code, or a position holds codes alone"
+abbrev pub codesFault : ℕ
+codesFault = 15

@@ -26,6 +26,9 @@ pub struct Prepared {
     pub repeats: Wide,
 }
 
+// From so many positions on, a rule's masks need more than one word: bit 0 is no position's.
+pub const ONE_WORD: u32 = 64;
+
 // How many positions some elements make, and the masks of those that are optional and that repeat.
 pub struct RuleMasks {
     pub positions: u32,
@@ -158,7 +161,8 @@ fn required(masks: RuleMasks) -> u32
     shift_and_wide::shortest(all, optional)
 }
 
-fn refusal(number: u32, place: u32) -> Prepared
+// What a refused rule comes to.
+pub fn refusal(number: u32, place: u32) -> Prepared
     ensures { λ r. ⌜ r ≡ refusalOf number place ⌝ }
 {
     let none = shift_and_wide::no_bits();

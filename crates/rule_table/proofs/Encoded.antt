@@ -1,9 +1,9 @@
--- From a rule to the bridge of `shift_and`: an accepted rule's table and masks are those of its positions (`Encodes`), forwards and reversed. And the laws of
--- `mirrored`. Assumes nothing.
+-- From a rule to the bridge of `shift_and`: a table and masks that are those of a list of positions (`Encodes`), in one word and in four; what an accepted rule is; and
+-- the laws of `mirrored`. Assumes nothing.
 use mathlib.Core.Path.{_≡_, refl, sym, ap, ap₂, subst, _∙_}
 use mathlib.Core.List.{List, [], _∷_, _++_, reverse, reverse-cons}
 use mathlib.Core.Bool.{Bool, true, false, _&&_}
-use Prim.Native.Nat.{ℕ, suc, _+_, _-_, _*_, _/_, _%_, _^_, _≤_, _<_}
+use Prim.Native.Nat.{ℕ, zero, suc, _+_, _-_, _*_, _/_, _%_, _^_, _≤_, _<_}
 use native.Mathlib.Omega.{arith}
 use native.Mathlib.Decide.{decLe}
 use native.Mathlib.Nat.{add-zero, zero-add, mul-assoc, add-mul, mod-eq-of-lt}
@@ -28,8 +28,8 @@ use Rattle.shift_and_wide.proofs.Masks.{number-words, words-number, words-fit, 
 use Rattle.shift_and_wide.proofs.Instances.{Fits, encodes-low}
 use Rattle.rule_parser.specs.declared.Prepared.{Prepared}
 use Rattle.rule_parser.specs.Preparing.{answerOf, preparedBy, prepared, Prepares}
-use Rattle.rule_table.specs.Tables.{planeOf, tableOf, rowOf, Counted, PlaneFillable, Fillable, Filled, mirrorFrom, mirror}
-use Rattle.rule_table.proofs.FillLaws.{Every, every-append, every-reverse, every-mask, kind-every, zero-word, row-length, long-entries, entry-at, Accepts, accepts}
+use Rattle.rule_table.specs.Tables.{planeOf, tableOf, rowOf, Counted, PlaneFillable, Fillable, mirrorFrom, mirror}
+use Rattle.rule_table.proofs.FillLaws.{Every, every-append, every-reverse, every-mask, kind-every, zero-word, long-entries, entry-at, Accepts, accepts}
 
 -- ---- `mirrored`
 
@@ -177,9 +177,20 @@ module _ (qs : List Position) where
       let d = long-plane 3 in
       simp length-append (omega arith)
 
+  -- each of its planes
+  pub plane-at : (j : ℕ) → j < 4 → take 256 (drop (j * 256) (tableOf qs)) ≡ planeOf j qs
+  plane-at j l = go j l
+    where
+      go : (j : ℕ) → j < 4 → take 256 (drop (j * 256) (tableOf qs)) ≡ planeOf j qs
+      go zero l = read-0 (planeOf 0 qs) (planeOf 1 qs) (planeOf 2 qs) (planeOf 3 qs) (long-plane 0) (long-plane 1) (long-plane 2) (long-plane 3)
+      go (suc zero) l = read-1 (planeOf 0 qs) (planeOf 1 qs) (planeOf 2 qs) (planeOf 3 qs) (long-plane 0) (long-plane 1) (long-plane 2) (long-plane 3)
+      go (suc (suc zero)) l = read-2 (planeOf 0 qs) (planeOf 1 qs) (planeOf 2 qs) (planeOf 3 qs) (long-plane 0) (long-plane 1) (long-plane 2) (long-plane 3)
+      go (suc (suc (suc zero))) l = read-3 (planeOf 0 qs) (planeOf 1 qs) (planeOf 2 qs) (planeOf 3 qs) (long-plane 0) (long-plane 1) (long-plane 2) (long-plane 3)
+      go (suc (suc (suc (suc j)))) l = absurd (omega arith)
+
   -- the table of a one-word run
   pub lowest-plane : take 256 (tableOf qs) ≡ planeOf 0 qs
-  lowest-plane = read-0 (planeOf 0 qs) (planeOf 1 qs) (planeOf 2 qs) (planeOf 3 qs) (long-plane 0) (long-plane 1) (long-plane 2) (long-plane 3)
+  lowest-plane = plane-at 0 (omega arith)
 
   module _ (bytes : BytesAlone qs) where
     plane-entry : (j c : ℕ) → getD (planeOf j qs) c 0 ≡ wordOf j (admitsMask qs c)
@@ -194,15 +205,8 @@ module _ (qs : List Position) where
     pub table-entry : (c : ℕ) → entryOf (tableOf qs) c ≡ wordsOf (admitsMask qs c)
     unfolding wordsOf
     table-entry c =
-        let p = planeOf 0 qs in
-        let q = planeOf 1 qs in
-        let r = planeOf 2 qs in
-        let s = planeOf 3 qs in
         let f : (x : List ℕ) (j : ℕ) → x ≡ planeOf j qs → getD x c 0 ≡ wordOf j (admitsMask qs c) = λ x j e. ap (λ (l : List ℕ). getD l c 0) e ∙ plane-entry j c in
-        same _ _ _ _ _ _ _ _ (f _ 0 (read-0 p q r s (long-plane 0) (long-plane 1) (long-plane 2) (long-plane 3)))
-        (f _ 1 (read-1 p q r s (long-plane 0) (long-plane 1) (long-plane 2) (long-plane 3)))
-        (f _ 2 (read-2 p q r s (long-plane 0) (long-plane 1) (long-plane 2) (long-plane 3)))
-        (f _ 3 (read-3 p q r s (long-plane 0) (long-plane 1) (long-plane 2) (long-plane 3)))
+        same _ _ _ _ _ _ _ _ (f _ 0 (plane-at 0 (omega arith))) (f _ 1 (plane-at 1 (omega arith))) (f _ 2 (plane-at 2 (omega arith))) (f _ 3 (plane-at 3 (omega arith)))
 
     pub table-fits : Fits (wideAutomatonOf (tableOf qs) (masksOf qs))
     table-fits = record {
@@ -229,13 +233,15 @@ pub record EncodesWide (table : List ℕ) (m : WideMasks) (qs : List Position) :
   pub numbers : Encodes (numbered (wideAutomatonOf table m)) qs
   pub fit : Fits (wideAutomatonOf table m)
 
+pub encodes-table : (qs : List Position) → BytesAlone qs → length qs ≤ positionLimit → (table : List ℕ) (m : WideMasks) → table ≡ tableOf qs → m ≡ masksOf qs → EncodesWide table m qs
+encodes-table qs bytes few table m et em =
+    subst (λ (x : List ℕ). EncodesWide x m qs) (sym et)
+    (subst (λ (x : WideMasks). EncodesWide (tableOf qs) x qs) (sym em) (record { numbers = table-encodes qs bytes few; fit = table-fits qs bytes }))
+
 -- at most 63 positions: plane 0 and the lowest words do alone
 pub encodes-lowest : (table : List ℕ) (m : WideMasks) (qs : List Position) → EncodesWide table m qs → length qs < 64
     → Encodes (wordAutomaton (take 256 table) (m .repeats .w0) (m .optional .w0) (m .top)) qs
 encodes-lowest table m qs e l = encodes-low (wideAutomatonOf table m) qs (e .fit) (e .numbers) l
-
-same-wide : {r r′ o o′ : Wide} {n n′ : ℕ} → r ≡ r′ → o ≡ o′ → n ≡ n′ → _≡_ {A = WideMasks} (record { repeats = r; optional = o; top = n }) (record { repeats = r′; optional = o′; top = n′ })
-same-wide a b c = rw (a, b, c)
 
 -- what a refusal was of
 pub is-refused : (flag : ℕ) (rule : List ℕ) (p : Prepared) → Prepares flag rule p → (p .number ≡ 0 → ⊥) → parse (foldFlag flag) rule ≡ refused (p .number) (p .place)
@@ -264,7 +270,7 @@ module _ (flag : ℕ) (rule : List ℕ) (p : Prepared) (hp : Prepares flag rule 
   pub shortest-is : p .shortest ≡ shortest ps
   shortest-is = ap (λ (y : Prepared). y .shortest) is-answer
 
-  few : length ps ≤ positionLimit
+  pub few : length ps ≤ positionLimit
   few = rw (← positions-are) (hp .few)
 
   -- what `fill` and `fill_plane` ask
@@ -276,29 +282,3 @@ module _ (flag : ℕ) (rule : List ℕ) (p : Prepared) (hp : Prepares flag rule 
 
   pub may-fill-plane : (plane : List ℕ) (word : ℕ) → length plane ≡ 256 → word < 4 → PlaneFillable flag rule (p .positions) plane word
   may-fill-plane plane word l h = record { rule-counted = counted; long = l; one = h }
-
-  row-few : (reversed : Bool) → length (rowOf reversed ps) ≤ positionLimit
-  row-few reversed = rw (row-length reversed ps) few
-
-  -- the table that `fill` makes, and the masks of its row of positions
-  encodes-row : (reversed : Bool) (table : List ℕ) → Filled flag rule reversed table → (m : WideMasks) → m ≡ masksOf (rowOf reversed ps) → EncodesWide table m (rowOf reversed ps)
-  encodes-row reversed table t m e =
-      subst (λ (x : List ℕ). EncodesWide x m (rowOf reversed ps)) (sym (t .is))
-      (subst (λ (x : WideMasks). EncodesWide (tableOf (rowOf reversed ps)) x (rowOf reversed ps)) (sym e) (record {
-        numbers = table-encodes (rowOf reversed ps) (rule-bytes flag rule reversed) (row-few reversed);
-        fit = table-fits (rowOf reversed ps) (rule-bytes flag rule reversed);
-      }))
-
-  -- forwards: `prepare`'s masks
-  pub encodes-forwards : (table : List ℕ) → Filled flag rule false table → EncodesWide table (record { repeats = p .repeats; optional = p .optional; top = p .positions }) ps
-  encodes-forwards table t = encodes-row false table t _ (ap (λ (y : Prepared). record { repeats = y .repeats; optional = y .optional; top = y .positions }) is-answer)
-
-  -- reversed: the mirrored masks
-  pub encodes-reversed : (table : List ℕ) → Filled flag rule true table → (R A : Wide) → R ≡ wordsOf (mirror (number (p .repeats)) (p .positions)) → A ≡ wordsOf (mirror (number (p .optional)) (p .positions))
-      → EncodesWide table (record { repeats = R; optional = A; top = p .positions }) (reverse ps)
-  encodes-reversed table t R A er ea = encodes-row true table t _
-      (same-wide (er ∙ mirrored-mask (λ q. q .repeats) (p .repeats) (ap (λ (y : Prepared). y .repeats) is-answer)) (ea ∙ mirrored-mask (λ q. q .optional) (p .optional) (ap (λ (y : Prepared). y .optional) is-answer))
-      (positions-are ∙ sym (length-reverse ps)))
-    where
-      mirrored-mask : (f : Position → Bool) (x : Wide) → x ≡ wordsOf (mask f ps) → wordsOf (mirror (number x) (p .positions)) ≡ wordsOf (mask f (reverse ps))
-      mirrored-mask f x e = ap wordsOf (ap₂ mirror (ap number e ∙ number-words (mask f ps) (mask-fits 256 f ps (omega (arith, few)))) positions-are ∙ mirror-mask f ps)

@@ -141,7 +141,7 @@ word-gained j false bits x = refl
 
 -- ---- what an element admits
 
-admits-is : (fold : Bool) (used : ℕ) (d : Model.Kind) (c : ℕ) → c < 256 → admitsBy fold (kindOf used d) (setOf fold d) c ≡ (isByte c && kindSet fold d c)
+pub admits-is : (fold : Bool) (used : ℕ) (d : Model.Kind) (c : ℕ) → c < 256 → admitsBy fold (kindOf used d) (setOf fold d) c ≡ (isByte c && kindSet fold d c)
 admits-is fold used d c h = go d ∙ sym (ap (λ (b : Bool). b && kindSet fold d c) (lt-ltb c 256 h))
   where
     go : (d : Model.Kind) → admitsBy fold (kindOf used d) (setOf fold d) c ≡ kindSet fold d c
@@ -172,9 +172,38 @@ entry-at j ps (suc n) c zero l = ap (λ (k : ℕ). wordOf j (admitsMask ps k)) (
 entry-at j ps (suc n) c (suc i) l = entry-at j ps n (suc c) i (omega arith) ∙ ap (λ (k : ℕ). wordOf j (admitsMask ps k)) (let z : suc c + i ≡ c + suc i = omega arith in z)
 
 -- a list with these entries is the plane
-plane-is : (j : ℕ) (ps : List Position) (t : List ℕ) → length t ≡ 256 → ((i : ℕ) → i < 256 → getD t i 0 ≡ wordOf j (admitsMask ps i)) → t ≡ planeOf j ps
+pub plane-is : (j : ℕ) (ps : List Position) (t : List ℕ) → length t ≡ 256 → ((i : ℕ) → i < 256 → getD t i 0 ≡ wordOf j (admitsMask ps i)) → t ≡ planeOf j ps
 plane-is j ps t l h =
     ext-getD 0 t (planeOf j ps) (l ∙ sym (long-entries j ps 256 0)) λ i k. let m : i < 256 = omega arith in h i m ∙ sym (entry-at j ps 256 0 i m ∙ ap (λ (c : ℕ). wordOf j (admitsMask ps c)) (zero-add i))
+
+-- ---- the elements that are left to read, of an accepted rule
+
+clash : {A : Type 0} {n p : ℕ} {es : List Model.Element} → refused n p ≡ accepted es → A
+clash q = let y : _≡_ {A = ℕ} 0 1 = cc in absurd (omega arith)
+
+accepted-inj : {es fs : List Model.Element} → accepted es ≡ accepted fs → es ≡ fs
+accepted-inj e = cc
+
+module _ (f : Bool) (s : List ℕ) (at used : ℕ) (left : List Model.Element) (rest : elementsFrom positionLimit f 0 at used (drop at s) ≡ accepted left) where
+  pub elements-over : length s ≤ at → left ≡ []
+  elements-over h = accepted-inj (sym rest ∙ elements-end f used s at h)
+
+  module _ (h : at < length s) (r : ElementResult) (rc : ReadsElement f used s at r) where
+    -- an accepted rule has no element that is refused
+    pub elements-never : {A : Type 0} (k : ℕ) → r .answer ≡ Refused k → A
+    elements-never k e = clash (sym (element-refused f used s at h r rc k e) ∙ rest)
+
+    module _ (element : Element) (to : ℕ) (e : r .answer ≡ Got element to) where
+      -- one is read, and these stand after it
+      pub elements-after : let x = element-found f used s at h r rc element to e in
+          (fs : List Model.Element) × (elementsFrom positionLimit f 0 to (used + sizeOf (element .kind)) (drop to s) ≡ accepted fs) × (record { kind = x .kind; often = x .often } ∷ fs ≡ left)
+      elements-after = go (elementsFrom positionLimit f 0 to (used + sizeOf (element .kind)) (drop to s)) refl
+        where
+          go : let x = element-found f used s at h r rc element to e in
+              (y : Parsed) → elementsFrom positionLimit f 0 to (used + sizeOf (element .kind)) (drop to s) ≡ y
+              → (fs : List Model.Element) × (elementsFrom positionLimit f 0 to (used + sizeOf (element .kind)) (drop to s) ≡ accepted fs) × (record { kind = x .kind; often = x .often } ∷ fs ≡ left)
+          go (accepted fs) q = let x = element-found f used s at h r rc element to e in (fs, q, accepted-inj (sym (x .turn ∙ ap (addElement (record { kind = x .kind; often = x .often })) q) ∙ rest))
+          go (refused n p) q = let x = element-found f used s at h r rc element to e in clash (sym (x .turn ∙ ap (addElement (record { kind = x .kind; often = x .often })) q) ∙ rest)
 
 -- ---- the loop
 
@@ -192,9 +221,6 @@ pub record Accepts (fold : Bool) (s : List ℕ) : Type 0 where
   pub elements : List Model.Element
   pub parses : parse fold s ≡ accepted elements
   pub reads : elementsFrom positionLimit fold 0 0 0 s ≡ accepted elements
-
-clash : {A : Type 0} {n p : ℕ} {es : List Model.Element} → refused n p ≡ accepted es → A
-clash q = let y : _≡_ {A = ℕ} 0 1 = cc in absurd (omega arith)
 
 pub accepts : (fold : Bool) (s : List ℕ) → preparedBy fold (parse fold s) .number ≡ 0 → Accepts fold s
 accepts fold s z = go (parse fold s) refl
@@ -223,14 +249,14 @@ accepts fold s z = go (parse fold s) refl
         absurd (omega arith)
 
 module _ (flag : ℕ) (s : List ℕ) (total : ℕ) (h : Counted flag s total) where
-  counted-rule : Accepts (foldFlag flag) s
+  pub counted-rule : Accepts (foldFlag flag) s
   unfolding prepared
   counted-rule = accepts (foldFlag flag) s (h .fine)
 
-  counted-positions : rulePositions (foldFlag flag) s ≡ positions (foldFlag flag) (counted-rule .elements)
+  pub counted-positions : rulePositions (foldFlag flag) s ≡ positions (foldFlag flag) (counted-rule .elements)
   counted-positions = ap (positionsBy (foldFlag flag)) (counted-rule .parses)
 
-  counted-length : total ≡ length (rulePositions (foldFlag flag) s)
+  pub counted-length : total ≡ length (rulePositions (foldFlag flag) s)
   unfolding prepared
   counted-length = h .count ∙ ap (λ (y : Parsed). preparedBy (foldFlag flag) y .positions) (counted-rule .parses) ∙ ap length (sym counted-positions)
 
@@ -256,15 +282,12 @@ fill-begun flag s total word plane₀ plane reversed h k f ef =
     first g ps true = (0, sym (zero-mul _), zero-add _)
 
 module _ (f : Bool) (s : List ℕ) (all : List Position) (reversed : Bool) (total word : ℕ) (plane : List ℕ) (at used : ℕ) (g : Filling f s all reversed total word plane at used) where
-  accepted-inj : {es fs : List Model.Element} → accepted es ≡ accepted fs → es ≡ fs
-  accepted-inj e = cc
-
   pub fill-over : length s ≤ at → (flag : ℕ) → all ≡ rulePositions (foldFlag flag) s → PlaneFilled flag s reversed plane word
   unfolding maskFrom
   fill-over h flag ea = record { long = g .long; is = plane-is word (rowOf reversed (rulePositions (foldFlag flag) s)) plane (g .long) same }
     where
       none : g .left ≡ []
-      none = accepted-inj (sym (g .rest) ∙ elements-end f used s at h)
+      none = elements-over f s at used (g .left) (g .rest) h
 
       last : (q : Position → Bool) (b : Bool) (x : ℕ) → Entry b q used [] all x → x ≡ mask q (rowOf b all)
       last q false x e = (let z : x ≡ x + 0 * 2 ^ (used + 1) = rw zero-mul (sym (add-zero x)) in z) ∙ e .1
@@ -276,24 +299,18 @@ module _ (f : Bool) (s : List ℕ) (all : List Position) (reversed : Bool) (tota
           e .is-word ∙ ap (wordOf word) (last (λ p. p .set i) reversed (e .whole) (rw none at (e .entry)) ∙ ap (λ (ps : List Position). admitsMask (rowOf reversed ps) i) ea)
 
   module _ (h : at < length s) (r : ElementResult) (rc : ReadsElement f used s at r) where
-    -- an accepted rule has no element that is refused
     pub fill-never : (k : ℕ) → r .answer ≡ Refused k → (flag : ℕ) → PlaneFilled flag s reversed plane word
-    fill-never k e flag = clash (sym (element-refused f used s at h r rc k e) ∙ g .rest)
+    fill-never k e flag = elements-never f s at used (g .left) (g .rest) h r rc k e
 
     module _ (element : Element) (to : ℕ) (e : r .answer ≡ Got element to) where
-      found : Found f used s at h r rc element to e
+      abbrev found : Found f used s at h r rc element to e
       found = element-found f used s at h r rc element to e
 
       moves : ElementMoves used s at element to
       moves = moved f used s at h r rc element to e
 
       after : (fs : List Model.Element) × (elementsFrom positionLimit f 0 to (used + sizeOf (element .kind)) (drop to s) ≡ accepted fs) × (record { kind = found .kind; often = found .often } ∷ fs ≡ g .left)
-      after = go (elementsFrom positionLimit f 0 to (used + sizeOf (element .kind)) (drop to s)) refl
-        where
-          go : (x : Parsed) → elementsFrom positionLimit f 0 to (used + sizeOf (element .kind)) (drop to s) ≡ x
-              → (fs : List Model.Element) × (elementsFrom positionLimit f 0 to (used + sizeOf (element .kind)) (drop to s) ≡ accepted fs) × (record { kind = found .kind; often = found .often } ∷ fs ≡ g .left)
-          go (accepted fs) q = (fs, q, accepted-inj (sym (found .turn ∙ ap (addElement (record { kind = found .kind; often = found .often })) q) ∙ g .rest))
-          go (refused n p) q = clash (sym (found .turn ∙ ap (addElement (record { kind = found .kind; often = found .often })) q) ∙ g .rest)
+      after = elements-after f s at used (g .left) (g .rest) h r rc element to e
 
       pub fill-ahead : (at < to) × (to ≤ length s)
       fill-ahead = (omega (arith, moves .ahead), moves .inside)
@@ -356,7 +373,7 @@ pub row-length : (reversed : Bool) (ps : List Position) → length (rowOf revers
 row-length true ps = length-reverse ps
 row-length false ps = refl
 
-none-above : (j : ℕ) (ps : List Position) (c : ℕ) → length ps < j * 64 → wordOf j (admitsMask ps c) ≡ 0
+pub none-above : (j : ℕ) (ps : List Position) (c : ℕ) → length ps < j * 64 → wordOf j (admitsMask ps c) ≡ 0
 none-above j ps c l = ap (λ (v : ℕ). v % 2 ^ 64) (div-eq-of-lt (mask-fits (j * 64) (λ p. p .set c) ps l))
 
 pub plane-cleared : (flag : ℕ) (s : List ℕ) (total word : ℕ) (plane₀ plane : List ℕ) (reversed : Bool) → PlaneFillable flag s total plane₀ word → total < word * 64 → Cleared plane 256 → PlaneFilled flag s reversed plane word
@@ -371,9 +388,17 @@ unfoldable pub planesBelow : (j : ℕ) → List Position → List ℕ
 planesBelow zero ps = []
 planesBelow (suc j) ps = planesBelow j ps ++ planeOf j ps
 
-four-planes : (ps : List Position) → planesBelow 4 ps ≡ tableOf ps
+pub four-planes : (ps : List Position) → planesBelow 4 ps ≡ tableOf ps
 unfolding planesBelow
 four-planes ps = simp append-assoc
+
+-- a plane put into a table: what stands up to its end
+pub plane-put : (table : List ℕ) (at : ℕ) (plane : List ℕ) → at + 256 ≤ length table → length plane ≡ 256 → take (at + 256) (putMid at (at + 256 - at) table plane) ≡ take at table ++ plane
+plane-put table at plane room long =
+    let rest = drop (at + 256 - at) (drop at table) in
+    let m : length (take at table) ≡ at = length-take-le at table (omega arith) in
+    let n : length (take at table ++ plane) ≡ at + 256 = length-append (take at table) plane ∙ ap₂ _+_ m long in
+    ap (take (at + 256)) (sym (append-assoc (take at table) plane rest)) ∙ take-at (take at table ++ plane) rest (at + 256) n
 
 -- the planes below `word` are filled, `at` words
 pub record FillingPlanes (flag : ℕ) (s : List ℕ) (reversed : Bool) (table : List ℕ) (word at : ℕ) : Type 0 where
@@ -415,15 +440,12 @@ module _ (flag : ℕ) (s : List ℕ) (reversed : Bool) where
       unfolding planesBelow
       planes-turn plane k =
           let row = rowOf reversed (rulePositions (foldFlag flag) s) in
-          let rest = drop (at + 256 - at) (drop at table) in
-          let m : length (take at table) ≡ at = length-take-le at table (omega (arith, plane-room)) in
-          let n : length (take at table ++ plane) ≡ at + 256 = length-append (take at table) plane ∙ ap₂ _+_ m (k .long) in
           record {
             within = omega arith;
             place = omega (arith, g .place);
             long = same-len-mid at (at + 256 - at) table plane (k .long ∙ sym part-length) ∙ g .long;
             filled =
-                ap (take (at + 256)) (sym (append-assoc (take at table) plane rest)) ∙ take-at (take at table ++ plane) rest (at + 256) n
+                plane-put table at plane plane-room (k .long)
                 ∙ ap₂ (λ (x y : List ℕ). x ++ y) (g .filled) (k .is)
                 ∙ ap (λ (j : ℕ). planesBelow j row) (sym (add-one word));
           }

@@ -1,7 +1,8 @@
--- THE THEOREM OF THE SCAN. Over any list of feeds and finishes, from the opening of an accepted rule on, every answer is the plain scan's. About the very
+-- THE THEOREM OF THE SCAN. Over any list of feeds and finishes, from the opening of an accepted rule with accepted codes on, every answer is the plain scan's. About the very
 -- definitions that the contracts of `open`, `feed` and `finish` cite. Assumes nothing.
 use mathlib.Core.Path.{_≡_, refl, sym, ap, ap₂, subst, _∙_}
 use mathlib.Core.Bool.{Bool, true, false, cond}
+use mathlib.Core.Logic.{inl, inr}
 use mathlib.Core.List.{List, [], _∷_, _++_, append-nil}
 use Prim.Native.Nat.{ℕ, zero, suc, _+_, _≤_, _<_}
 use native.Mathlib.Numerals.{add-one}
@@ -10,12 +11,13 @@ use lib.Dec.{eqb, ltb, nltb→le, ltb→lt}
 use lib.ListN.{length, getD, length-append}
 use Rattle.model.specs.Occurrence.{Position, consIf, all, shortest}
 use Rattle.model.specs.RefusalNumbers.{impossible}
-use Rattle.model.specs.RuleText.{foldFlag, positionLimit, isByte, Element, positions, ruleLimit}
-use Rattle.model.specs.NumberedAnswers.{textLimit, Parsed, refused as turned-down, accepted, parse, positionsBy, rulePositions}
+use Rattle.model.specs.RuleText.{foldFlag, positionLimit, isByte, Element, positions}
+use Rattle.model.specs.NumberedAnswers.{textLimit, Parsed, refused as turned-down, accepted, positionsBy}
+use Rattle.model.specs.Codes.{codesOf, fitting, smudged, parseWith}
 use Rattle.model.specs.References.{formLimit, heldMost, heldTail, withoutTail}
 use Rattle.model.specs.PlainScan.{Call, feed, finish, Answer, refused, reported, pieceOf, listOf, refusal, refusalFor, nothingKept, scanFrom, plainScan}
-use Rattle.model.proofs.Accepted.{rule-ok}
-use Rattle.model.proofs.Refusals.{refusal-row}
+use Rattle.model.proofs.Fitting.{smudged-ok}
+use Rattle.model.proofs.CodeLaws.{coded-refusal}
 use Rattle.model.proofs.Truth.{branch, and-left, and-right, and-intro}
 use Rattle.model.proofs.Decoding.{decode-length, held-length, tail-joined, held-cut}
 use Rattle.model.proofs.Scans as Scans
@@ -25,7 +27,8 @@ use Rattle.shift_and_wide.specs.declared.Wide.{Wide}
 use Rattle.shift_and_wide.specs.Stepping.{WideAutomaton, numbered, stepOnW, openingStateW, acceptsW, stateAfterW, endsInW}
 use Rattle.shift_and_wide.proofs.Instances.{Fits, wide-is-plain}
 use Rattle.rule_table.specs.Tables.{tableOf}
-use Rattle.rule_table.proofs.Encoded.{rule-bytes, table-long, table-fits, table-encodes}
+use Rattle.rule_table.proofs.Encoded.{table-long, table-fits, table-encodes}
+use Rattle.code_table.proofs.FittedMasks.{smudged-past}
 use Rattle.scan_piece.specs.Feeding.{textOf, tailOf}
 use Rattle.rule_part.specs.RulePart.{automatonOfRule, stateOf}
 use Rattle.rule_part.proofs.RuleFields.{rule-possible, fields-automaton, fields-state}
@@ -287,38 +290,39 @@ module _ (ps : List Position) where
         ∙ wide-is-plain (automatonFor ps) f ps e formLimit cs
 
 -- What an opening with number 0 was of, and what it left.
-pub record OpenedWith (flag : ℕ) (rule s′ : List ℕ) : Type 0 where
+pub record OpenedWith (flag : ℕ) (rule codes sets s′ : List ℕ) : Type 0 where
   pub elements : List Element
-  pub parses : parse (foldFlag flag) rule ≡ accepted elements
-  pub leaves : s′ ≡ openingOf (positions (foldFlag flag) elements)
+  pub parses : parseWith (foldFlag flag) rule codes sets ≡ accepted elements
+  pub leaves : s′ ≡ openingOf (fitting (codesOf codes sets) (positions (foldFlag flag) elements))
 
-module _ (flag : ℕ) (rule s : List ℕ) (r : Opened) (s′ : List ℕ) where
-  by-length : (b : Bool) (es : List Element) → parse (foldFlag flag) rule ≡ accepted es
+module _ (flag : ℕ) (rule codes sets s : List ℕ) (r : Opened) (s′ : List ℕ) where
+  by-length : (b : Bool) (es : List Element) → parseWith (foldFlag flag) rule codes sets ≡ accepted es
       → r ≡ cond b (acceptingRule (length (positions (foldFlag flag) es)) (shortest (positions (foldFlag flag) es))) (refusingRule impossible 0)
-      → s′ ≡ cond b (openingOf (positions (foldFlag flag) es)) s → r .number ≡ 0 → OpenedWith flag rule s′
+      → s′ ≡ cond b (openingOf (fitting (codesOf codes sets) (positions (foldFlag flag) es))) s → r .number ≡ 0 → OpenedWith flag rule codes sets s′
   by-length true es e a l z = record { elements = es; parses = e; leaves = l }
   by-length false es e a l z = absurd (omega (arith, sym (ap (λ (o : Opened). o .number) a) ∙ z))
 
-  by-rule : (x : Parsed) → parse (foldFlag flag) rule ≡ x → r ≡ answerBy flag (length s) x → s′ ≡ leftBy flag s x → r .number ≡ 0 → OpenedWith flag rule s′
+  by-rule : (x : Parsed) → parseWith (foldFlag flag) rule codes sets ≡ x → r ≡ answerBy flag (length s) x → s′ ≡ leftBy flag codes sets s x → r .number ≡ 0 → OpenedWith flag rule codes sets s′
   by-rule (turned-down n p) e a l z =
       let q : n ≡ 0 = sym (ap (λ (o : Opened). o .number) a) ∙ z in
-      let one = refusal-row positionLimit (foldFlag flag) ruleLimit rule n p e .0 in
-      absurd (omega arith)
+      elim (coded-refusal (foldFlag flag) rule codes sets n p e) [ inl r ↦ let l = r .0 in absurd (omega arith) | inr r ↦ let l = r .0 in absurd (omega arith) ]
   by-rule (accepted es) e a l z = by-length (eqb (length s) scanLength) es e a l z
 
-  pub opened-with : OpenIs flag rule s r s′ → r .number ≡ 0 → OpenedWith flag rule s′
-  opened-with o z = by-rule (parse (foldFlag flag) rule) refl (o .answers) (o .leaves) z
+  pub opened-with : OpenIs flag rule codes sets s r s′ → r .number ≡ 0 → OpenedWith flag rule codes sets s′
+  opened-with o z = by-rule (parseWith (foldFlag flag) rule codes sets) refl (o .answers) (o .leaves) z
 
-module _ (flag : ℕ) (rule : List ℕ) (bytes : Bytes rule) (cs : List Call) (pieces : PiecesAreBytes cs) where
-  accepted-opens : (es : List Element) → parse (foldFlag flag) rule ≡ accepted es → runFrom (openingOf (positions (foldFlag flag) es)) cs ≡ plainScan flag rule cs
+module _ (flag : ℕ) (rule codes sets : List ℕ) (bytes : Bytes rule) (code-bytes : Bytes codes) (cs : List Call) (pieces : PiecesAreBytes cs) where
+  accepted-opens : (es : List Element) → parseWith (foldFlag flag) rule codes sets ≡ accepted es
+      → runFrom (openingOf (fitting (codesOf codes sets) (positions (foldFlag flag) es))) cs ≡ plainScan flag rule codes sets cs
   accepted-opens es e =
-      let ps = rulePositions (foldFlag flag) rule in
-      let ok = rule-ok (foldFlag flag) rule es bytes e in
-      let q : positions (foldFlag flag) es ≡ ps = sym (ap (positionsBy (foldFlag flag)) e) in
+      let ps = smudged (foldFlag flag) rule codes sets in
+      let is = smudged-ok (foldFlag flag) rule codes sets es bytes e in
+      let ok = is .rule-is in
+      let past = smudged-past codes sets code-bytes flag rule false in
+      let q : fitting (codesOf codes sets) (positions (foldFlag flag) es) ≡ ps = sym (ap (λ (x : Parsed). fitting (codesOf codes sets) (positionsBy (foldFlag flag) x)) (is .parses)) in
       ap (λ (ps : List Position). runFrom (openingOf ps) cs) q
-      ∙ from-opening ps (ok .some) (ok .few)
-      (table-fits ps (rule-bytes flag rule false)) (table-encodes ps (rule-bytes flag rule false) (ok .few)) cs pieces
+      ∙ from-opening ps (ok .some) (ok .few) (table-fits ps past) (table-encodes ps past (ok .few)) cs pieces
 
   -- "every answer, refusal or ends": from what an accepted opening left, each call handed what the one before it left.
-  pub scan-is-plain : (s : List ℕ) (r : Opened) (s′ : List ℕ) → OpenIs flag rule s r s′ → r .number ≡ 0 → runFrom s′ cs ≡ plainScan flag rule cs
-  scan-is-plain s r s′ o z = let w = opened-with flag rule s r s′ o z in ap (λ (s : List ℕ). runFrom s cs) (w .leaves) ∙ accepted-opens (w .elements) (w .parses)
+  pub scan-is-plain : (s : List ℕ) (r : Opened) (s′ : List ℕ) → OpenIs flag rule codes sets s r s′ → r .number ≡ 0 → runFrom s′ cs ≡ plainScan flag rule codes sets cs
+  scan-is-plain s r s′ o z = let w = opened-with flag rule codes sets s r s′ o z in ap (λ (s : List ℕ). runFrom s cs) (w .leaves) ∙ accepted-opens (w .elements) (w .parses)

@@ -1,6 +1,6 @@
 // Opens a scan: the parts of a scan value for a rule, of whose plan nothing is read yet.
 ghost use mathlib.Core.Path.{_≡_};
-ghost use Rattle.model.specs.NumberedAnswers.{rulePositions};
+ghost use Rattle.model.specs.Codes.{smudged};
 ghost use Rattle.model.specs.RuleText.{foldFlag};
 ghost use Rattle.rule_part.specs.RulePart.{ruleLength};
 ghost use Rattle.scan_value.specs.Value.{scanLength};
@@ -10,13 +10,15 @@ use rule_parser::Prepared;
 use shift_and_wide::WideMasks;
 
 // The rule's part: its table, its masks and the state before the first byte.
-fn open_rule(rule: &[u8], fold: u32, p: Prepared, part: &mut [u64])
-    requires { ⌜ Openable fold (now rule) p ruleLength (now part) ⌝ }
-    ensures { λ r. ⌜ now (part .exit) ≡ openingRule (rulePositions (foldFlag fold) (now (rule .entry))) ⌝ }
+fn open_rule(rule: &[u8], fold: u32, codes: &[u8], sets: &[u8], p: Prepared, part: &mut [u64])
+    requires { ⌜ Openable fold (now rule) (now codes) (now sets) p ruleLength (now part) ⌝ }
+    ensures { λ r. ⌜ now (part .exit) ≡ openingRule (smudged (foldFlag fold) (now (rule .entry)) (now (codes .entry)) (now (sets .entry))) ⌝ }
 {
-    rule_table::fill(
+    code_table::fill(
         rule,
         fold,
+        codes,
+        sets,
         p.positions,
         &mut part[..rule_part::TABLE],
         false,
@@ -32,27 +34,27 @@ fn open_rule(rule: &[u8], fold: u32, p: Prepared, part: &mut [u64])
     rule_part::begin(part, masks);
 }
 
-// Both parts, of an accepted rule.
-fn open_accepted(rule: &[u8], fold: u32, p: Prepared, scan: &mut [u64])
-    requires { ⌜ Openable fold (now rule) p scanLength (now scan) ⌝ }
-    ensures { λ r. ⌜ now (scan .exit) ≡ openingOf (rulePositions (foldFlag fold) (now (rule .entry))) ⌝ }
+// Both parts, of an accepted rule with accepted codes.
+fn open_accepted(rule: &[u8], fold: u32, codes: &[u8], sets: &[u8], p: Prepared, scan: &mut [u64])
+    requires { ⌜ Openable fold (now rule) (now codes) (now sets) p scanLength (now scan) ⌝ }
+    ensures { λ r. ⌜ now (scan .exit) ≡ openingOf (smudged (foldFlag fold) (now (rule .entry)) (now (codes .entry)) (now (sets .entry))) ⌝ }
 {
-    open_rule(rule, fold, p, &mut scan[..scan_value::PLAN]);
+    open_rule(rule, fold, codes, sets, p, &mut scan[..scan_value::PLAN]);
     let none = piece_decoder::held::nothing_held();
     plan_part::put(&mut scan[scan_value::PLAN..], 0, 0, 0, none);
 }
 
-// Opens a scan for a rule.
-pub fn open(rule: &[u8], fold: u32, scan: &mut [u64]) -> Opened
-    ensures { λ r. ⌜ OpenIs fold (now (rule .entry)) (now (scan .entry)) r (now (scan .exit)) ⌝ }
+// Opens a scan for a rule with codes.
+pub fn open(rule: &[u8], fold: u32, codes: &[u8], sets: &[u8], scan: &mut [u64]) -> Opened
+    ensures { λ r. ⌜ OpenIs fold (now (rule .entry)) (now (codes .entry)) (now (sets .entry)) (now (scan .entry)) r (now (scan .exit)) ⌝ }
 {
-    let p = rule_parser::prepare(rule, fold);
+    let p = rule_codes::prepare(rule, fold, codes, sets);
     if p.number != 0 {
         return answers::refused_rule(p.number, p.place);
     }
     if scan.len() != scan_value::LENGTH {
         return answers::refused_rule(answers::IMPOSSIBLE, 0);
     }
-    open_accepted(rule, fold, p, scan);
+    open_accepted(rule, fold, codes, sets, p, scan);
     answers::accepted_rule(p.positions, p.shortest)
 }

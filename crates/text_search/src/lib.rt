@@ -1,13 +1,10 @@
-// The calls on a whole decoded text: the window search, and the part that is shown.
+// The window search of a whole decoded text.
 ghost use mathlib.Core.Path.{_≡_};
 ghost use Prim.Native.Nat.{_<_, _≤_};
 ghost use lib.ListN.{length};
 ghost use Rattle.model.specs.RuleText.{positionLimit};
 ghost use Rattle.text_search.specs.Searching.{WholeIs, Ready, ReadyLow, PreparedIs, LowPreparedIs, lowMasks, FoundIs, WorkIs, SearchIs};
-ghost use denote.Ref.{ptr};
-ghost use Rattle.text_search.specs.Showing.{Showable, ShowableLow, PartIs, ShownIs, ShowsPart};
 use answers::Answer;
-use answers::Span;
 use rule_parser::Prepared;
 use shift_and_step::Masks;
 use shift_and_wide::WideMasks;
@@ -87,16 +84,24 @@ fn low_rule_of(p: Prepared) -> Rule
 }
 
 // The search for a rule of at most 63 positions, in one word.
-fn search_low(rule: &[u8], fold: u32, p: Prepared, text: &[u8], starts: &mut [u32]) -> Found
-    requires { ⌜ ReadyLow fold (now rule) p (length (now text)) (length (now starts)) ⌝ }
-    ensures { λ r. ⌜ FoundIs fold (now (rule .entry)) (now (text .entry)) (now (starts .entry)) r (now (starts .exit)) ⌝ }
+fn search_low(
+    rule: &[u8],
+    fold: u32,
+    codes: &[u8],
+    sets: &[u8],
+    p: Prepared,
+    text: &[u8],
+    starts: &mut [u32],
+) -> Found
+    requires { ⌜ ReadyLow fold (now rule) (now codes) (now sets) p (length (now text)) (length (now starts)) ⌝ }
+    ensures { λ r. ⌜ FoundIs fold (now (rule .entry)) (now (codes .entry)) (now (sets .entry)) (now (text .entry)) (now (starts .entry)) r (now (starts .exit)) ⌝ }
 {
     let total = p.positions;
     let low = low_rule_of(p);
     let mut forward = [0u64; 256];
-    rule_table::fill_plane(rule, fold, total, &mut forward, false, 0);
+    code_table::fill_plane(rule, fold, codes, sets, total, &mut forward, false, 0);
     let mut reversed = [0u64; 256];
-    rule_table::fill_plane(rule, fold, total, &mut reversed, true, 0);
+    code_table::fill_plane(rule, fold, codes, sets, total, &mut reversed, true, 0);
     let mut first = [0u64; 256];
     let back = low.reversed;
     window_reader::last_byte_states(&reversed, back, &mut first);
@@ -104,52 +109,80 @@ fn search_low(rule: &[u8], fold: u32, p: Prepared, text: &[u8], starts: &mut [u3
 }
 
 // The same for a rule of any number of positions, in four.
-fn search_wide(rule: &[u8], fold: u32, p: Prepared, text: &[u8], starts: &mut [u32]) -> Found
-    requires { ⌜ Ready fold (now rule) p (length (now text)) (length (now starts)) ⌝ }
-    ensures { λ r. ⌜ FoundIs fold (now (rule .entry)) (now (text .entry)) (now (starts .entry)) r (now (starts .exit)) ⌝ }
+fn search_wide(
+    rule: &[u8],
+    fold: u32,
+    codes: &[u8],
+    sets: &[u8],
+    p: Prepared,
+    text: &[u8],
+    starts: &mut [u32],
+) -> Found
+    requires { ⌜ Ready fold (now rule) (now codes) (now sets) p (length (now text)) (length (now starts)) ⌝ }
+    ensures { λ r. ⌜ FoundIs fold (now (rule .entry)) (now (codes .entry)) (now (sets .entry)) (now (text .entry)) (now (starts .entry)) r (now (starts .exit)) ⌝ }
 {
     let total = p.positions;
     let prepared = rule_of(p);
     let mut forward = [0u64; 1024];
-    rule_table::fill(rule, fold, total, &mut forward, false);
+    code_table::fill(rule, fold, codes, sets, total, &mut forward, false);
     let mut reversed = [0u64; 1024];
-    rule_table::fill(rule, fold, total, &mut reversed, true);
+    code_table::fill(rule, fold, codes, sets, total, &mut reversed, true);
     let mut first = [0u64; 1024];
     let back = prepared.reversed;
     wide_window_reader::last_byte_states(&reversed, back, &mut first);
     wide_window_search::search_tables(&forward, &reversed, &first, prepared, text, starts)
 }
 
-// From so many positions on, a rule needs more than one word.
-const ONE_WORD: u32 = 64;
-
 // What a search finds, in one word where that does.
-fn search_found(rule: &[u8], fold: u32, p: Prepared, text: &[u8], starts: &mut [u32]) -> Found
-    requires { ⌜ Ready fold (now rule) p (length (now text)) (length (now starts)) ⌝ }
-    ensures { λ r. ⌜ FoundIs fold (now (rule .entry)) (now (text .entry)) (now (starts .entry)) r (now (starts .exit)) ⌝ }
+fn search_found(
+    rule: &[u8],
+    fold: u32,
+    codes: &[u8],
+    sets: &[u8],
+    p: Prepared,
+    text: &[u8],
+    starts: &mut [u32],
+) -> Found
+    requires { ⌜ Ready fold (now rule) (now codes) (now sets) p (length (now text)) (length (now starts)) ⌝ }
+    ensures { λ r. ⌜ FoundIs fold (now (rule .entry)) (now (codes .entry)) (now (sets .entry)) (now (text .entry)) (now (starts .entry)) r (now (starts .exit)) ⌝ }
 {
-    if p.positions < ONE_WORD {
-        return search_low(rule, fold, p, text, starts);
+    if p.positions < rule_parser::ONE_WORD {
+        return search_low(rule, fold, codes, sets, p, text, starts);
     }
-    search_wide(rule, fold, p, text, starts)
+    search_wide(rule, fold, codes, sets, p, text, starts)
 }
 
 // The work of an accepted search.
-fn search_accepted(rule: &[u8], fold: u32, p: Prepared, text: &[u8], starts: &mut [u32]) -> Answer
-    requires { ⌜ Ready fold (now rule) p (length (now text)) (length (now starts)) ⌝ }
-    ensures { λ r. ⌜ WorkIs fold (now (rule .entry)) (now (text .entry)) (now (starts .entry)) r (now (starts .exit)) ⌝ }
+fn search_accepted(
+    rule: &[u8],
+    fold: u32,
+    codes: &[u8],
+    sets: &[u8],
+    p: Prepared,
+    text: &[u8],
+    starts: &mut [u32],
+) -> Answer
+    requires { ⌜ Ready fold (now rule) (now codes) (now sets) p (length (now text)) (length (now starts)) ⌝ }
+    ensures { λ r. ⌜ WorkIs fold (now (rule .entry)) (now (codes .entry)) (now (sets .entry)) (now (text .entry)) (now (starts .entry)) r (now (starts .exit)) ⌝ }
 {
-    let f = search_found(rule, fold, p, text, starts);
+    let f = search_found(rule, fold, codes, sets, p, text, starts);
     let count = f.count as u32;
     let windows = f.windows as u32;
     answers::counted(count, windows)
 }
 
-// Searches a whole decoded text: the starts of occurrences, and how many windows were tried.
-pub fn search(rule: &[u8], fold: u32, text: &[u8], starts: &mut [u32]) -> Answer
-    ensures { λ r. ⌜ SearchIs fold (now (rule .entry)) (now (text .entry)) (now (starts .entry)) r (now (starts .exit)) ⌝ }
+// Searches a whole decoded text for a rule with codes: the starts of occurrences, and how many windows were tried.
+pub fn search(
+    rule: &[u8],
+    fold: u32,
+    codes: &[u8],
+    sets: &[u8],
+    text: &[u8],
+    starts: &mut [u32],
+) -> Answer
+    ensures { λ r. ⌜ SearchIs fold (now (rule .entry)) (now (codes .entry)) (now (sets .entry)) (now (text .entry)) (now (starts .entry)) r (now (starts .exit)) ⌝ }
 {
-    let p = rule_parser::prepare(rule, fold);
+    let p = rule_codes::prepare(rule, fold, codes, sets);
     if p.number != 0 {
         return answers::refused(p.number, p.place);
     }
@@ -157,72 +190,5 @@ pub fn search(rule: &[u8], fold: u32, text: &[u8], starts: &mut [u32]) -> Answer
     if number != 0 {
         return answers::refused(number, 0);
     }
-    search_accepted(rule, fold, p, text, starts)
-}
-
-// The work of showing, for a rule of at most 63 positions.
-fn span_low(rule: &[u8], fold: u32, p: Prepared, text: &[u8], start: usize) -> Span
-    requires { ⌜ ShowableLow fold (now rule) p (length (now text)) start ⌝ }
-    ensures { λ r. ⌜ PartIs fold (now (rule .entry)) (now (text .entry)) start r ⌝ }
-{
-    let total = p.positions;
-    let prepared = rule_of(p);
-    let on = prepared.forward;
-    let low = low_masks(on);
-    let mut forward = [0u64; 256];
-    rule_table::fill_plane(rule, fold, total, &mut forward, false, 0);
-    window_search::part_from(&forward, low, text, start)
-}
-
-// The same for a rule of any number of positions.
-fn span_wide(rule: &[u8], fold: u32, p: Prepared, text: &[u8], start: usize) -> Span
-    requires { ⌜ Showable fold (now rule) p (length (now text)) start ⌝ }
-    ensures { λ r. ⌜ PartIs fold (now (rule .entry)) (now (text .entry)) start r ⌝ }
-{
-    let total = p.positions;
-    let prepared = rule_of(p);
-    let on = prepared.forward;
-    let mut forward = [0u64; 1024];
-    rule_table::fill(rule, fold, total, &mut forward, false);
-    wide_window_search::part_from(&forward, on, text, start)
-}
-
-// The work of showing, for an accepted rule: in one word where that does.
-fn span_accepted(rule: &[u8], fold: u32, p: Prepared, text: &[u8], start: usize) -> Span
-    requires { ⌜ Showable fold (now rule) p (length (now text)) start ⌝ }
-    ensures { λ r. ⌜ PartIs fold (now (rule .entry)) (now (text .entry)) start r ⌝ }
-{
-    if p.positions < ONE_WORD {
-        return span_low(rule, fold, p, text, start);
-    }
-    span_wide(rule, fold, p, text, start)
-}
-
-// The part of the text that is shown, as its two places.
-pub fn span(rule: &[u8], fold: u32, text: &[u8], start: usize) -> Span
-    ensures { λ r. ⌜ ShownIs fold (now (rule .entry)) (now (text .entry)) start r ⌝ }
-{
-    let len = text.len();
-    let p = rule_parser::prepare(rule, fold);
-    if p.number != 0 {
-        return Span { from: len, to: len };
-    }
-    if len > limits::TEXT_LIMIT {
-        return Span { from: len, to: len };
-    }
-    if start > len {
-        return Span { from: len, to: len };
-    }
-    span_accepted(rule, fold, p, text, start)
-}
-
-// Shows an occurrence: that part of the caller's text from the start to the earliest end there, or the
-// empty part at the text's end.
-pub fn show<'a>(rule: &[u8], fold: u32, text: &'a [u8], start: usize) -> &'a [u8]
-    ensures { λ r. ⌜ ShowsPart fold (now (rule .entry)) (now (text .entry)) (ptr (text .entry)) start (now r) (ptr r) ⌝ }
-{
-    let s = span(rule, fold, text, start);
-    let from = s.from;
-    let to = s.to;
-    &text[from..to]
+    search_accepted(rule, fold, codes, sets, p, text, starts)
 }

@@ -1,5 +1,6 @@
 -- `text_search::search` meets its contract.
 use Rattle.text_search.proofs.Parts.{search-refused, search-not-whole, search-ready, search-done}
+use Rattle.code_list.proofs.Bytes.{bytes-known}
 use borrow.Author.Needs.{needs}
 use Rattle.text_search.proofs.search.Statement.{statement}
 use Rattle.text_search.proofs.search.Tie as tie
@@ -23,7 +24,7 @@ returns-2 : tie.Need-returns-2
 returns-2 c = search search-not-whole
 
 search-accepted-requires : tie.Need-search-accepted-requires
-search-accepted-requires c κs = search search-ready
+search-accepted-requires c κs = search (search-ready, bytes-known)
 
 same-length : tie.Need-same-length
 same-length c = search needs

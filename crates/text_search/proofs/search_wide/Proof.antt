@@ -1,5 +1,5 @@
 -- `text_search::search_wide` meets its contract. Its laws are in this crate's `proofs/`; `search LAW` finds a law's premises in `c`. Assumes nothing.
-use Rattle.text_search.proofs.Parts.{bytes-known, fillable, few-positions, search-fits, wide-last-fits, wide-rule-fits, wide-found}
+use Rattle.text_search.proofs.Parts.{fillable, codes-accepted, few-positions, search-fits, wide-last-fits, wide-rule-fits, wide-found}
 use borrow.Author.Needs.{needs}
 use Rattle.text_search.proofs.search_wide.Statement.{statement}
 use Rattle.text_search.proofs.search_wide.Tie as tie
@@ -11,13 +11,13 @@ slice-aggregate-fill : tie.Need-slice-aggregate-fill
 slice-aggregate-fill c = search needs
 
 fill-requires : tie.Need-fill-requires
-fill-requires c κs = search fillable
+fill-requires c κs = search (fillable, codes-accepted)
 
 slice-aggregate-fill-2 : tie.Need-slice-aggregate-fill-2
 slice-aggregate-fill-2 c = search needs
 
 fill-requires-2 : tie.Need-fill-requires-2
-fill-requires-2 c κs = search fillable
+fill-requires-2 c κs = search (fillable, codes-accepted)
 
 slice-aggregate-last-byte-states : tie.Need-slice-aggregate-last-byte-states
 slice-aggregate-last-byte-states c = search needs
@@ -38,13 +38,19 @@ slice-aggregate-search-tables-3 : tie.Need-slice-aggregate-search-tables-3
 slice-aggregate-search-tables-3 c = search needs
 
 search-tables-requires : tie.Need-search-tables-requires
-search-tables-requires c κs = (search (wide-rule-fits, bytes-known), search search-fits)
+search-tables-requires c κs = (search wide-rule-fits, search search-fits)
 
 same-length : tie.Need-same-length
 same-length c = search needs
 
 returns : tie.Need-returns
-returns c = search (wide-found, bytes-known)
+returns c =
+    let a = c .before .before in
+    let b = a .before .before .before .before .before .before .before .before .before .before .before in
+    let d = b .before .before .before in
+    let e = d .before .before in
+    let s = e .before .before .before .before .before .before in
+    wide-found _ _ _ _ _ _ _ (s .pre) _ (e .rule-of .ensures) _ _ (b .fill2 .ensures) (d .fill .ensures) _ _ _ _ (a .search-tables .ensures)
 
 pub search-wide-spec : {M : Type 1} → statement M
 search-wide-spec =

@@ -1,8 +1,8 @@
--- `text_search::span` meets its contract.
-use Rattle.text_search.proofs.Shows.{shown-refused, shown-long, shown-past, shown-ready, shown-done}
+-- `text_show::span` meets its contract.
+use Rattle.text_show.proofs.Shows.{shown-refused, shown-long, shown-past, shown-ready, shown-done}
 use borrow.Author.Needs.{needs}
-use Rattle.text_search.proofs.span.Statement.{statement}
-use Rattle.text_search.proofs.span.Tie as tie
+use Rattle.text_show.proofs.span.Statement.{statement}
+use Rattle.text_show.proofs.span.Tie as tie
 
 prepare-requires : tie.Need-prepare-requires
 prepare-requires c κs = search needs

@@ -1,15 +1,12 @@
--- `text_search::span_low` meets its contract. Its laws are in this crate's `proofs/`; `search LAW` finds a law's premises in `c`. Assumes nothing.
-use Rattle.text_search.proofs.Parts.{bytes-known}
-use Rattle.text_search.proofs.Shows.{shown-low-few, shown-low-fillable, shown-low-fits, part-low-shown}
+-- `text_show::span_low` meets its contract. Its laws are in this crate's `proofs/`; `search LAW` finds a law's premises in `c`. Assumes nothing.
+use Rattle.code_list.proofs.Bytes.{bytes-known}
 use borrow.Author.Needs.{needs}
-use Rattle.text_search.proofs.span_low.Statement.{statement}
-use Rattle.text_search.proofs.span_low.Tie as tie
+use Rattle.text_show.proofs.Shows.{shown-low-fillable, shown-low-fits, part-low-shown}
+use Rattle.text_show.proofs.span_low.Statement.{statement}
+use Rattle.text_show.proofs.span_low.Tie as tie
 
-rule-of-requires : tie.Need-rule-of-requires
-rule-of-requires c κs = search shown-low-few
-
-low-masks-requires : tie.Need-low-masks-requires
-low-masks-requires c κs = search needs
+cast-t11 : tie.Need-cast-t11
+cast-t11 c = search needs
 
 slice-aggregate-fill-plane : tie.Need-slice-aggregate-fill-plane
 slice-aggregate-fill-plane c = search needs
@@ -30,8 +27,7 @@ pub span-low-spec : {M : Type 1} → statement M
 span-low-spec =
     tie.close
     (tie.spec
-    rule-of-requires
-    low-masks-requires
+    cast-t11
     slice-aggregate-fill-plane
     fill-plane-requires
     slice-aggregate-part-from

@@ -1,12 +1,12 @@
--- `text_search::span_wide` meets its contract. Its laws are in this crate's `proofs/`; `search LAW` finds a law's premises in `c`. Assumes nothing.
-use Rattle.text_search.proofs.Parts.{bytes-known}
-use Rattle.text_search.proofs.Shows.{shown-few, shown-fillable, shown-fits, part-shown}
+-- `text_show::span_wide` meets its contract. Its laws are in this crate's `proofs/`; `search LAW` finds a law's premises in `c`. Assumes nothing.
+use Rattle.code_list.proofs.Bytes.{bytes-known}
 use borrow.Author.Needs.{needs}
-use Rattle.text_search.proofs.span_wide.Statement.{statement}
-use Rattle.text_search.proofs.span_wide.Tie as tie
+use Rattle.text_show.proofs.Shows.{shown-fillable, shown-fits, part-shown}
+use Rattle.text_show.proofs.span_wide.Statement.{statement}
+use Rattle.text_show.proofs.span_wide.Tie as tie
 
-rule-of-requires : tie.Need-rule-of-requires
-rule-of-requires c κs = search shown-few
+cast-t11 : tie.Need-cast-t11
+cast-t11 c = search needs
 
 slice-aggregate-fill : tie.Need-slice-aggregate-fill
 slice-aggregate-fill c = search needs
@@ -27,7 +27,7 @@ pub span-wide-spec : {M : Type 1} → statement M
 span-wide-spec =
     tie.close
     (tie.spec
-    rule-of-requires
+    cast-t11
     slice-aggregate-fill
     fill-requires
     slice-aggregate-part-from

@@ -1,8 +1,8 @@
--- `text_search::show` meets its contract.
-use Rattle.text_search.proofs.Shows.{shows-part}
+-- `text_show::show` meets its contract.
+use Rattle.text_show.proofs.Shows.{shows-part}
 use borrow.Author.Needs.{needs}
-use Rattle.text_search.proofs.show.Statement.{statement}
-use Rattle.text_search.proofs.show.Tie as tie
+use Rattle.text_show.proofs.show.Statement.{statement}
+use Rattle.text_show.proofs.show.Tie as tie
 
 span-requires : tie.Need-span-requires
 span-requires c κs = search needs

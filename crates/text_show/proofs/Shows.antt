@@ -1,5 +1,5 @@
 -- The part that is shown, for any rule, text and start. On plain values. Assumes nothing.
-use mathlib.Core.Path.{_≡_, sym, ap, subst, _∙_}
+use mathlib.Core.Path.{_≡_, refl, sym, ap, subst, _∙_}
 use mathlib.Core.Bool.{Bool, false, cond}
 use mathlib.Core.List.{List}
 use Prim.Native.Nat.{ℕ, _+_, _-_, _≤_, _<_}
@@ -8,33 +8,49 @@ use lib.Dec.{T}
 use lib.ListN.{length, take, drop}
 use borrow.Author.Tests.{lt-ltb, le-ltb}
 use Rattle.model.specs.Occurrence.{Position, stretch, all}
-use Rattle.model.specs.RuleText.{foldFlag, positionLimit, isByte, positions}
+use Rattle.model.specs.RuleText.{foldFlag, isByte, positions}
 use Rattle.model.specs.NumberedAnswers.{textLimit, Parsed, accepted, positionsBy, rulePositions}
 use Rattle.model.specs.WindowSearch.{emptyPart, partFrom, partBy, shown}
 use Rattle.model.proofs.Windows.{take-drop}
 use Rattle.model.proofs.Earliest.{part-empty}
-use Rattle.shift_and.specs.Automaton.{Automaton}
+use Rattle.model.proofs.Accepted.{rule-ok}
+use Rattle.shift_and.specs.Automaton.{wordBits, Automaton}
 use Rattle.shift_and.specs.Masks.{Encodes}
 use Rattle.shift_and_step.specs.declared.Masks.{Masks}
 use Rattle.shift_and_step.specs.Stepping.{automatonOf, TableFits}
+use Rattle.shift_and_wide.specs.declared.WideMasks.{WideMasks}
 use Rattle.shift_and_wide.specs.Stepping.{wideAutomatonOf, numbered, WideTableFits}
 use Rattle.rule_parser.specs.declared.Prepared.{Prepared}
 use Rattle.rule_parser.specs.Preparing.{Prepares}
-use Rattle.rule_table.specs.Tables.{PlaneFillable, PlaneFilled, Fillable, Filled}
-use Rattle.rule_table.proofs.Encoded.{is-refused, is-accepted, may-fill, may-fill-plane}
+use Rattle.rule_table.specs.Tables.{tableOf, PlaneFillable, PlaneFilled, Fillable, Filled}
+use Rattle.rule_table.proofs.Encoded.{rule-bytes, table-long, lowest-plane, EncodesWide, encodes-table, encodes-lowest, is-refused, is-accepted, is-answer, positions-are, few, may-fill, may-fill-plane}
 use Rattle.answers.specs.declared.Span.{Span}
 use Rattle.window_search.specs.Searching.{spanOf, SpanIs}
-use Rattle.wide_window_search.specs.declared.WideRule.{WideRule}
-use Rattle.text_search.specs.Searching.{PreparedIs, lowMasks}
-use Rattle.text_search.specs.Showing.{Showable, ShowableLow, PartIs, ShownIs, shownBytes, ShowsPart}
-use Rattle.text_search.proofs.Parts.{rule-is-ok, wide-onward, wide-on-fits, low-onward, low-on-fits}
+use Rattle.text_show.specs.Showing.{Showable, ShowableLow, PartIs, ShownIs, shownBytes, ShowsPart}
+
+-- ---- an accepted rule, and its table
+
+module _ (flag : ℕ) (rule : List ℕ) (p : Prepared) (hp : Prepares flag rule p) (z : p .number ≡ 0) where
+  abbrev ps : List Position
+  ps = rulePositions (foldFlag flag) rule
+
+  abbrev masks : WideMasks
+  masks = record { repeats = p .repeats; optional = p .optional; top = p .positions }
+
+  onward : (table : List ℕ) → Filled flag rule false table → EncodesWide table masks ps
+  onward table t =
+      encodes-table ps (rule-bytes flag rule false) (few flag rule p hp z) table masks (t .is)
+      (ap (λ (y : Prepared). record { repeats = y .repeats; optional = y .optional; top = y .positions }) (is-answer flag rule p hp z))
+
+  low-onward : p .positions < wordBits → (plane : List ℕ) → PlaneFilled flag rule false plane 0
+      → Encodes (automatonOf plane (record { repeats = p .repeats .w0; optional = p .optional .w0; top = p .positions })) ps
+  low-onward low plane f =
+      subst (λ (t : List ℕ). Encodes (automatonOf t (record { repeats = p .repeats .w0; optional = p .optional .w0; top = p .positions })) ps) (lowest-plane ps ∙ sym (f .is))
+      (encodes-lowest (tableOf ps) masks ps (onward (tableOf ps) (record { long = table-long ps; is = refl })) (omega (arith, positions-are flag rule p hp z)))
 
 -- ---- `span_low`, `span_wide`, `span_accepted`
 
 module _ (flag : ℕ) (rule : List ℕ) (p : Prepared) (len start : ℕ) (r : Showable flag rule p len start) where
-  pub shown-few : p .positions ≤ positionLimit
-  shown-few = r .prepares .few
-
   pub showable-low : p .positions < 64 → ShowableLow flag rule p len start
   showable-low h = record { showable = r; low = h }
 
@@ -43,31 +59,33 @@ module _ (flag : ℕ) (rule : List ℕ) (p : Prepared) (len start : ℕ) (r : Sh
 
   part-of : (F : Automaton) → Encodes F (rulePositions (foldFlag flag) rule) → T (all isByte rule) → (text : List ℕ) (y : Span) → SpanIs F text start y → PartIs flag rule text start y
   part-of F e bytes text y i =
-      record { is = i .means (rulePositions (foldFlag flag) rule) e (rule-is-ok flag rule p (r .prepares) (r .accepted) bytes .not-empty); ordered = i .ordered; inside = i .inside }
+      let a = is-accepted flag rule p (r .prepares) (r .accepted) in
+      let ok = rule-ok (foldFlag flag) rule (a .elements) bytes (a .parses) in
+      record { is = i .means (rulePositions (foldFlag flag) rule) e (ok .not-empty); ordered = i .ordered; inside = i .inside }
 
-  module _ (q : WideRule) (x : PreparedIs p q) where
-    pub shown-fits : (forward : List ℕ) → Filled flag rule false forward → WideTableFits forward (q .forward)
-    shown-fits forward f = wide-on-fits flag rule p (r .prepares) (r .accepted) q x forward f
+  module _ (forward : List ℕ) (f : Filled flag rule false forward) where
+    abbrev wide-masks : WideMasks
+    wide-masks = record { repeats = p .repeats; optional = p .optional; top = p .positions }
 
-    pub part-shown : (forward : List ℕ) → Filled flag rule false forward → T (all isByte rule) → (text : List ℕ) (y : Span)
-        → SpanIs (numbered (wideAutomatonOf forward (q .forward))) text start y → PartIs flag rule text start y
-    part-shown forward f = part-of (numbered (wideAutomatonOf forward (q .forward))) (wide-onward flag rule p (r .prepares) (r .accepted) q x forward f)
+    pub shown-fits : WideTableFits forward wide-masks
+    shown-fits = let n = r .prepares .few in record { long = f .long; top = omega arith }
+
+    pub part-shown : T (all isByte rule) → (text : List ℕ) (y : Span) → SpanIs (numbered (wideAutomatonOf forward wide-masks)) text start y → PartIs flag rule text start y
+    part-shown = part-of (numbered (wideAutomatonOf forward wide-masks)) (onward flag rule p (r .prepares) (r .accepted) forward f .numbers)
 
 module _ (flag : ℕ) (rule : List ℕ) (p : Prepared) (len start : ℕ) (r : ShowableLow flag rule p len start) where
-  pub shown-low-few : p .positions ≤ positionLimit
-  shown-low-few = r .showable .prepares .few
-
   pub shown-low-fillable : (plane : List ℕ) → length plane ≡ 256 → PlaneFillable flag rule (p .positions) plane 0
   shown-low-fillable plane l = may-fill-plane flag rule p (r .showable .prepares) (r .showable .accepted) plane 0 l (omega arith)
 
-  module _ (q : WideRule) (x : PreparedIs p q) (m : Masks) (e : m ≡ lowMasks (q .forward)) (forward : List ℕ) (f : PlaneFilled flag rule false forward 0) where
-    pub shown-low-fits : TableFits forward m
-    shown-low-fits = subst (TableFits forward) (sym e) (low-on-fits flag rule p (r .showable .prepares) (r .showable .accepted) q x (r .low) forward f)
+  module _ (forward : List ℕ) (f : PlaneFilled flag rule false forward 0) where
+    abbrev low-masks : Masks
+    low-masks = record { repeats = p .repeats .w0; optional = p .optional .w0; top = p .positions }
 
-    pub part-low-shown : T (all isByte rule) → (text : List ℕ) (y : Span) → SpanIs (automatonOf forward m) text start y → PartIs flag rule text start y
-    part-low-shown bytes text y i =
-        part-of flag rule p len start (r .showable) (automatonOf forward (lowMasks (q .forward))) (low-onward flag rule p (r .showable .prepares) (r .showable .accepted) q x (r .low) forward f) bytes text y
-        (subst (λ (m : Masks). SpanIs (automatonOf forward m) text start y) e i)
+    pub shown-low-fits : TableFits forward low-masks
+    shown-low-fits = let n = r .low in record { long = f .long; top = omega arith }
+
+    pub part-low-shown : T (all isByte rule) → (text : List ℕ) (y : Span) → SpanIs (automatonOf forward low-masks) text start y → PartIs flag rule text start y
+    part-low-shown = part-of flag rule p len start (r .showable) (automatonOf forward low-masks) (low-onward flag rule p (r .showable .prepares) (r .showable .accepted) (r .low) forward f)
 
 -- ---- `span`
 

@@ -1,0 +1,3 @@
+-- Laws on plain values; each function's own file only cites them.
+pub mod Bytes
+pub mod CodeLists
