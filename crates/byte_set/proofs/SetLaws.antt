@@ -14,6 +14,7 @@ use lib.Pow.{pow-lt}
 use borrow.Author.Tests.{eq-eqb, ne-eqb, le-leb, lt-leb, eqb-true, leb-true}
 use Rattle.shift_and.specs.Bit.{bit}
 use Rattle.model.specs.RuleText.{Range, inRanges, otherCase, widened, turnedRound, kindSet, class, someBelow}
+use Rattle.model.proofs.Below.{some-none, none-each}
 use Rattle.shift_and.proofs.Digits.{not-bit, and-bit, or-bit, none-bit, no-bits, power-bit}
 use Rattle.byte_set.specs.Sets.{member, addByte, addWhere, addRange, addRanges, none, widen, turn, minusWord, minus, isEmpty}
 
@@ -283,20 +284,6 @@ module _ (fold t : Bool) (rs : List Range) where
       ∙ ap₂ (λ (a b : Bool). a || (fold && b)) (held x l) (held (otherCase x) (other-small x l)))
 
 -- ---- left with no byte
-
-some-none : (f : ℕ → Bool) (n : ℕ) → ((x : ℕ) → x < n → f x ≡ false) → someBelow f n ≡ false
-some-none f zero h = refl
-some-none f (suc n) h = ap₂ (λ (a b : Bool). a || b) (h n (omega arith)) (some-none f n (λ x l. h x (omega arith)))
-
-or-none : (a b : Bool) → (a || b) ≡ false → (a ≡ false) × (b ≡ false)
-or-none false b e = (refl, e)
-or-none true b e = let z : _≡_ {A = ℕ} 0 1 = cc in absurd (omega arith)
-
-none-each : (f : ℕ → Bool) (n : ℕ) → someBelow f n ≡ false → (x : ℕ) → x < n → f x ≡ false
-none-each f zero e x l = absurd (omega arith)
-none-each f (suc n) e x l =
-    let s = or-none (f n) (someBelow f n) e in
-    elim (ℕ-discrete x n) [ yes q ↦ ap f q ∙ s .0 | no q ↦ none-each f n (s .1) x (omega arith) ]
 
 module _ (w : List ℕ) (h : Four w) (f : ℕ → Bool) (is : (x : ℕ) → x < 256 → member w x ≡ f x) where
   word-none : ((x : ℕ) → x < 256 → f x ≡ false) → (k : ℕ) → k < 4 → getD w k 0 ≡ 0

@@ -13,7 +13,7 @@ use borrow.Rule.Slice.PartMut.{midOf, mid-len}
 use Rattle.model.specs.RuleText.{oneOf, someBelow}
 use Rattle.model.specs.Codes.{codesMost, setBytes, inSet, share, codesOf, namedTwice, setWrong, setsWrong, codesWrong}
 use Rattle.model.proofs.Truth.{T-to, T-true, or-false-left, or-false-right}
-use Rattle.model.proofs.Fitting.{some-out}
+use Rattle.model.proofs.Below.{some-out}
 use Rattle.model.proofs.CodeLaws.{holdsOne, holds-code}
 
 -- ---- `in_set`

@@ -19,7 +19,8 @@ use Rattle.model.specs.RuleText.{foldFlag, oneOf, someBelow}
 use Rattle.model.specs.NumberedAnswers.{rulePositions}
 use Rattle.model.specs.Codes.{setBytes, inSet, share, codesOf, fitting, namedTwice, setWrong, setsWrong, codesWrong}
 use Rattle.model.proofs.Truth.{T-to, T-false, and-intro, or-false-left, or-false-right}
-use Rattle.model.proofs.Fitting.{some-out, fitting-length, fitting-reverse}
+use Rattle.model.proofs.Below.{some-out}
+use Rattle.model.proofs.Fitting.{fitting-length, fitting-reverse}
 use Rattle.shift_and.specs.Masks.{admitsMask}
 use Rattle.shift_and_wide.specs.Wides.{wordOf}
 use Rattle.shift_and_wide.proofs.Masks.{word-or}

@@ -2,7 +2,7 @@
 -- a rule's length and positions. Assumes nothing.
 use mathlib.Core.Path.{_≡_, refl, sym, subst, _∙_}
 use mathlib.Core.Bool.{Bool, true, false, not, _&&_, _||_}
-use mathlib.Core.Logic.{_⊎_, inl, inr, _≢_}
+use mathlib.Core.Logic.{_≢_}
 use mathlib.Core.List.{List, [], _∷_}
 use Prim.Native.Nat.{ℕ, zero, suc, pred, _+_, _-_, _≤_}
 use native.Mathlib.Omega.{arith}
@@ -14,7 +14,8 @@ use Rattle.model.specs.Occurrence.{Position, all, shortest, oneIf}
 use Rattle.model.specs.RuleText.{ruleLimit, positionLimit, Kind, byte, any, class, gap, Often, once, optional, Element, kindSet, isByte, otherCase, position, kindPositions, positions, size, ReadKind, bad, good, someBelow, Items, items, faulty, itemsFrom, classOf, classAt, gapAt, boundAt, startsWith, escapeAt, kindAt, oftenAfter, markBytes, mayEscape, oneOf}
 use Rattle.model.specs.NumberedAnswers.{Parsed, refused, accepted, addElement, elementsFrom, orEmpty, parseWithin, parse, positionsBy, rulePositions}
 use Rattle.model.specs.WindowSearch.{EachSet, HasByte, Inhabited}
-use Rattle.model.proofs.Truth.{and-intro, and-left, and-right, or-cases, or-left, T-to, branch}
+use Rattle.model.proofs.Below.{some-into}
+use Rattle.model.proofs.Truth.{and-intro, and-left, and-right, or-left, T-to, branch}
 use Rattle.model.proofs.Law.{each-append}
 
 -- ---- a kind that was read has some byte, and a gap has its bounds in order
@@ -22,13 +23,8 @@ use Rattle.model.proofs.Law.{each-append}
 abbrev KindOk : Bool → Kind → Type 0
 KindOk fold k = ((c : ℕ) × T (isByte c && kindSet fold k c)) × ((o : Often) → length (kindPositions fold k o) ≡ size k)
 
-some-byte : (s : ℕ → Bool) (n : ℕ) → n ≤ 256 → T (someBelow s n) → (c : ℕ) × T (isByte c && s c)
-some-byte s zero l t = absurd t
-some-byte s (suc n) l t = go (or-cases (s n) (someBelow s n) t) (some-byte s n (omega arith))
-  where
-    go : T (s n) ⊎ T (someBelow s n) → (T (someBelow s n) → (c : ℕ) × T (isByte c && s c)) → (c : ℕ) × T (isByte c && s c)
-    go (inl h) ih = (n, and-intro (isByte n) (s n) (lt→ltb n 256 l) h)
-    go (inr h) ih = ih h
+some-byte : (s : ℕ → Bool) → T (someBelow s 256) → (c : ℕ) × T (isByte c && s c)
+some-byte s t = let r = some-into s 256 t in (r .0, and-intro (isByte (r .0)) (s (r .0)) (lt→ltb (r .0) 256 (r .1)) (r .2))
 
 byte-ok : (fold : Bool) (b : ℕ) → T (isByte b) → KindOk fold (byte b)
 byte-ok fold b t = ((b, and-intro (isByte b) (eqb b b || fold && eqb (otherCase b) b) t (or-left (eqb b b) (fold && eqb (otherCase b) b) (eqb-refl b))), λ o. refl)
@@ -44,7 +40,7 @@ class-ok fold turned faulty k n e = not-bad e
 class-ok fold turned (items [] m) k n e = not-bad e
 class-ok fold turned (items (r ∷ rs) m) k n e =
     branch (someBelow (kindSet fold (class turned (r ∷ rs))) 256) e
-    (λ t q. subst (λ (q : Kind). KindOk fold q) (good-kind q) (some-byte (kindSet fold (class turned (r ∷ rs))) 256 (omega arith) t, λ o. refl))
+    (λ t q. subst (λ (q : Kind). KindOk fold q) (good-kind q) (some-byte (kindSet fold (class turned (r ∷ rs))) t, λ o. refl))
     (λ t q. not-bad q)
 
 classAt-ok : (fold : Bool) (cs : List ℕ) (k : Kind) (n : ℕ) → classAt fold cs ≡ good k n → KindOk fold k

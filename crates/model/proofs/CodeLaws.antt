@@ -1,6 +1,6 @@
 -- Row 15, part by part, as code reads it: a set that holds a code, a position that holds codes alone, no codes, that eight codes leave some byte, and the numbers of
 -- refusals. Assumes nothing.
-use mathlib.Core.Path.{_≡_, refl, sym, ap, ap₂, subst, _∙_}
+use mathlib.Core.Path.{_≡_, refl, sym, ap, subst, _∙_}
 use mathlib.Core.Bool.{Bool, true, false, not, cond, _&&_, _||_}
 use mathlib.Core.Logic.{_⊎_, inl, inr}
 use mathlib.Core.List.{List, [], _∷_, _++_}
@@ -15,16 +15,11 @@ use Rattle.model.specs.NumberedAnswers.{Parsed, refused, accepted, parse
 use Rattle.model.specs.WindowSearch.{EachSet, Inhabited}
 use Rattle.model.specs.Codes.{share, inSet, codesAlone, codesRefused, orCodes, parseWith, smudged}
 use Rattle.model.proofs.Truth.{and-intro, and-left, and-right, or-cases, or-left, or-right, T-to, T-true, T-false, same-test, or-false-left, or-false-right}
+use Rattle.model.proofs.Below.{some-into, some-out}
 use Rattle.model.proofs.Accepted.{rule-ok}
 use Rattle.model.proofs.Refusals.{refusal-row}
 use Rattle.model.proofs.Moves.{OfBytes, rule-sets}
-use Rattle.model.proofs.Fitting.{some-into, some-out, fitting-none}
-
--- ---- tests that agree below a bound
-
-pub some-same : (s t : ℕ → Bool) (n : ℕ) → ((x : ℕ) → x < n → s x ≡ t x) → someBelow s n ≡ someBelow t n
-some-same s t zero h = refl
-some-same s t (suc n) h = ap₂ (λ (a b : Bool). a || b) (h n (omega arith)) (some-same s t n (λ x l. h x (omega arith)))
+use Rattle.model.proofs.Fitting.{fitting-none}
 
 -- ---- "a set .. holds a code": some code is in it
 

@@ -1,8 +1,8 @@
 -- What fits a position is settled by whether the byte is a code; an accepted list of codes leaves every position some byte, so that every law over
 -- positions holds of the positions read by fit; and an occurrence by fit is an occurrence of some plain reading, each place by itself. Assumes nothing.
 use mathlib.Core.Path.{_≡_, refl, sym, ap, subst, _∙_}
-use mathlib.Core.Bool.{Bool, true, false, not, cond, _&&_, _||_}
-use mathlib.Core.Logic.{_⊎_, inl, inr, _↔_}
+use mathlib.Core.Bool.{Bool, true, false, not, cond, _&&_}
+use mathlib.Core.Logic.{_↔_}
 use mathlib.Core.List.{List, [], _∷_, _++_, reverse, reverse-cons, nil≢cons, tail-eq-of-cons-eq, head-eq-of-cons-eq}
 use Prim.Native.Nat.{ℕ, zero, suc, _+_, _*_, _<_}
 use native.Mathlib.Nat.{le-of-suc-le-suc, not-suc-le-zero, add-comm}
@@ -11,46 +11,24 @@ use lib.Dec.{T, eqb, eqb→eq, eqb-refl, ltb→lt}
 use lib.ListN.{length, take, drop, getD}
 use lib.Seq.{drop-drop}
 use Rattle.model.specs.Occurrence.{Position, all, Share, one, empty, longer, Occurs, done, next, shortest, oneIf, isShare}
-use Rattle.model.specs.RuleText.{oneOf, isByte, someBelow, Element, positions, positionLimit}
+use Rattle.model.specs.RuleText.{oneOf, isByte, Element, positions, positionLimit}
 use Rattle.model.specs.NumberedAnswers.{Parsed, refused, accepted, parse, positionsBy, rulePositions}
 use Rattle.model.specs.WindowSearch.{EachSet, Inhabited, shift, LargestMove}
 use Rattle.model.specs.Codes.{setBytes, Code, inSet, codesOf, share, fits, fittingOne, fitting, smudged, reads, Reading, none, also, namedTwice, codesWrong, codesAlone, codesRefused, orCodes, parseWith}
-use Rattle.model.proofs.Truth.{and-intro, and-left, and-right, or-cases, or-left, or-right, T-to, T-true, T-false, branch, or-false-left, or-false-right}
+use Rattle.model.proofs.Truth.{and-intro, and-left, and-right, T-to, T-true, T-false, branch, or-false-left, or-false-right}
+use Rattle.model.proofs.Below.{some-into, some-out}
 use Rattle.model.proofs.Shares.{occurs-to, occurs-nil, occurs-first}
 use Rattle.model.proofs.Decided.{share-decided}
 use Rattle.model.proofs.Accepted.{RuleOk, rule-ok}
 use Rattle.model.proofs.Moves.{OfBytes, rule-sets, shift-largest}
 
--- ---- some byte below n
-
-pub some-into : (s : ℕ → Bool) (n : ℕ) → T (someBelow s n) → (x : ℕ) × (x < n) × T (s x)
-some-into s zero t = absurd t
-some-into s (suc n) t = go (or-cases (s n) (someBelow s n) t) (some-into s n)
-  where
-    go : T (s n) ⊎ T (someBelow s n) → (T (someBelow s n) → (x : ℕ) × (x < n) × T (s x)) → (x : ℕ) × (x < suc n) × T (s x)
-    go (inl h) ih = (n, omega arith, h)
-    go (inr h) ih = let r = ih h in let l = r .1 in (r .0, omega arith, r .2)
-
-pub some-out : (s : ℕ → Bool) (n x : ℕ) → x < n → T (s x) → T (someBelow s n)
-some-out s zero x l t = absurd (omega arith)
-some-out s (suc n) x l t = go (eqb x n) refl (some-out s n x)
-  where
-    go : (b : Bool) → eqb x n ≡ b → (x < n → T (s x) → T (someBelow s n)) → T (s n || someBelow s n)
-    go true q ih = or-left (s n) (someBelow s n) (subst (λ (k : ℕ). T (s k)) (eqb→eq x n (T-to (sym q) tt)) t)
-    go false q ih =
-        let ne : x ≡ n → ⊥ = λ e. T-to q (subst (λ (k : ℕ). T (eqb x k)) e (eqb-refl x)) in
-        or-right (s n) (someBelow s n) (ih (omega arith) t)
-
 -- ---- a byte that is no code fits when it is in the set
 
-oneOf-byte : (c : ℕ) (cs sets : List ℕ) (s : ℕ → Bool) → oneOf cs c ≡ false → fits (codesOf cs sets) s c ≡ s c
-oneOf-byte c [] sets s e = refl
-oneOf-byte c (k ∷ ks) sets s e =
-    let n : eqb c k ≡ false = or-false-left (eqb c k) (oneOf ks c) e in
-    rw n (oneOf-byte c ks (drop setBytes sets) s (or-false-right (eqb c k) (oneOf ks c) e))
-
 pub fits-plain : (codes sets : List ℕ) (s : ℕ → Bool) (c : ℕ) → oneOf codes c ≡ false → fits (codesOf codes sets) s c ≡ s c
-fits-plain codes sets s c e = oneOf-byte c codes sets s e
+fits-plain [] sets s c e = refl
+fits-plain (k ∷ ks) sets s c e =
+    let n : eqb c k ≡ false = or-false-left (eqb c k) (oneOf ks c) e in
+    rw n (fits-plain ks (drop setBytes sets) s c (or-false-right (eqb c k) (oneOf ks c) e))
 
 -- A code fits when its set and the position's share a byte: the k-th code and the k-th 32 bytes of the sets.
 pub fits-code : (codes sets : List ℕ) (s : ℕ → Bool) (k : ℕ) → k < length codes → namedTwice codes ≡ false

@@ -1,5 +1,6 @@
 -- Laws about the definitions of specs/, bottom up.
 pub mod Truth
+pub mod Below
 pub mod Shares
 pub mod Law
 pub mod Decided

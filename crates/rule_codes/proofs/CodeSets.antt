@@ -14,8 +14,8 @@ use Rattle.model.specs.RuleText as Model
 use Rattle.model.specs.RuleText.{oneOf, isByte, otherCase, kindSet, byte, any, class, gap, once, optional, position, kindPositions}
 use Rattle.model.specs.Codes.{share, codesMost, codesAlone}
 use Rattle.model.proofs.Truth.{same-test, and-intro, and-left, and-right, or-cases, or-left, or-right}
-use Rattle.model.proofs.Fitting.{some-into, some-out}
-use Rattle.model.proofs.CodeLaws.{some-same, alone-append, alone-replicate, codes-leave-one}
+use Rattle.model.proofs.Below.{some-into, some-out, some-same}
+use Rattle.model.proofs.CodeLaws.{alone-append, alone-replicate, codes-leave-one}
 use Rattle.byte_set.specs.Sets.{member, addByte, minus, isEmpty, none}
 use Rattle.byte_set.proofs.Fold.{fold-twice}
 use Rattle.byte_set.proofs.SetLaws.{Four, none-four, add-four, member-add, none-member, minus-four, minus-member, class-four, class-member, empty-none, full-some, other-small}

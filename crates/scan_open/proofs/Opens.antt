@@ -54,8 +54,8 @@ module _ (flag : ℕ) (rule codes sets : List ℕ) (p : Prepared) (r : List ℕ)
   pub filled-long : (t : List ℕ) → length t ≡ tableLength → length (t ++ drop tableLength r) ≡ ruleLength
   filled-long t l = omega (arith, q .long, length-append t (drop tableLength r), length-drop tableLength r)
 
-  pub rule-same : (t : List ℕ) → length t ≡ tableLength → (r′ : List ℕ) → r′ ≡ begun (t ++ drop tableLength r) (record { repeats = p .repeats; optional = p .optional; top = p .positions }) → length r′ ≡ length r
-  rule-same t l r′ e =
+  pub rule-same : (t : List ℕ) → length t ≡ tableLength → (m : WideMasks) (r′ : List ℕ) → r′ ≡ begun (t ++ drop tableLength r) m → length r′ ≡ length r
+  rule-same t l m r′ e =
       ap length e ∙ fields-long (entriesOf (t ++ drop tableLength r)) _ _ (ap length (take-at t (drop tableLength r) tableLength l) ∙ l) ∙ sym (q .long)
 
   pub rule-opened : (t : List ℕ) → Fitted flag rule codes sets false t → (r′ : List ℕ) → r′ ≡ begun (t ++ drop tableLength r) (record { repeats = p .repeats; optional = p .optional; top = p .positions }) → r′ ≡ openingRule (smudged (foldFlag flag) rule codes sets)
