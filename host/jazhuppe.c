@@ -23,8 +23,8 @@ enum { FOUND = 0, NONE = 1, TROUBLE = 2 };
 enum { PIECE = 4096 };
 static const uint64_t mebibyte = 1024 * 1024;
 
-/* What is printed of an occurrence. */
-typedef enum { ENDS, STARTS, TEXTS } output;
+/* What is printed: of each occurrence, or the rule itself, rewritten. */
+typedef enum { ENDS, STARTS, TEXTS, REWRITTEN } output;
 
 /* A rule, and the codes that a plan is read with. */
 typedef struct {
@@ -43,7 +43,8 @@ typedef struct {
     uint64_t size; /* 0 where it is not known */
 } plan;
 
-static const char usage_line[] = "usage: jazhuppe [-i] [-c CODE=SET]... [-e | -s | -t] RULE [FILE...]\n";
+static const char usage_lines[] = "usage: jazhuppe [-i] [-c CODE=SET]... [-e | -s | -t] RULE [FILE...]\n"
+                                  "       jazhuppe [-i] --rewrite RULE\n";
 
 static const char help_text[] =
     "Finds where a seat rule occurs in seating plans, after references such as &amp;\n"
@@ -58,6 +59,8 @@ static const char help_text[] =
     "             the byte CODE, or 0xHH, stands in the plan for a character that could\n"
     "             not be read, and may be any byte of SET, which is written as in a rule:\n"
     "             -c '?=[0-9]'; up to 8 times\n"
+    "  --rewrite  print a stored RULE with the gaps {a,b}, a < b, at its front and back\n"
+    "             turned into a dots each, so that it is no longer refused\n"
     "  --         no more options: RULE may begin with -\n"
     "  --help     print this and exit\n"
     "  --version  print the version and exit\n"
@@ -68,8 +71,9 @@ static const char help_text[] =
     "\n"
     "In a rule . is any byte, [a-z] [^a-z] a class, {a,b} a gap of a to b bytes; ? + *\n"
     "after an element make it optional, repeatable, or both; \\ takes a mark as it is.\n"
+    "A rule may not begin or end with a gap with a < b.\n"
     "\n"
-    "Exit status: 0 something was found, 1 nothing, 2 trouble.\n";
+    "Exit status: 0 something was found or rewritten, 1 nothing found, 2 trouble.\n";
 
 /* The requirement's words for each refusal, of 15 those that a command line can come to; some numbers have none. */
 static const char *refusal_words(uint32_t number)
@@ -88,6 +92,7 @@ static const char *refusal_words(uint32_t number)
         [JAZHUPPE_IMPOSSIBLE] = "impossible scan value",
         [JAZHUPPE_FINISHED] = "scan already finished",
         [JAZHUPPE_CODES] = "a code named twice, a SET with a code in it, or a position of the rule that holds codes alone",
+        [JAZHUPPE_OUTER_GAP] = "the rule begins or ends with a gap {a,b} with a < b",
     };
 
     return number < sizeof words / sizeof words[0] && words[number] != NULL ? words[number] : "a refusal without words";
@@ -180,10 +185,19 @@ static void point_at(const rule *r, size_t place)
     fprintf(stderr, "\n%*s^\n", (int)column, "");
 }
 
-static void refused_rule(const rule *r, jazhuppe_prepared p)
+static void refused_rule(const rule *r, uint32_t number, uint32_t place)
 {
-    fprintf(stderr, "jazhuppe: refused %" PRIu32 " at %" PRIu32 ": %s\n", p.number, p.place, refusal_words(p.number));
-    point_at(r, p.place);
+    fprintf(stderr, "jazhuppe: refused %" PRIu32 " at %" PRIu32 ": %s\n", number, place, refusal_words(number));
+    point_at(r, place);
+    if (number == JAZHUPPE_OUTER_GAP)
+        fputs("Try 'jazhuppe --rewrite RULE'.\n", stderr);
+}
+
+/* By 2, whose place is in the finished text and not in the rule. */
+static void refused_rewriting(void)
+{
+    fprintf(stderr, "jazhuppe: refused %d at %d: the rewritten rule is over 1,023 bytes\n", JAZHUPPE_RULE_LONG,
+            JAZHUPPE_RULE_MOST);
 }
 
 /* That has no place in the rule. */
@@ -527,13 +541,13 @@ static int closed(int status)
 
 static int misused(const char *words, const char *argument)
 {
-    fprintf(stderr, "jazhuppe: %s%s\n%sTry 'jazhuppe --help'.\n", words, argument, usage_line);
+    fprintf(stderr, "jazhuppe: %s%s\n%sTry 'jazhuppe --help'.\n", words, argument, usage_lines);
     return TROUBLE;
 }
 
 static int print_help(void)
 {
-    fputs(usage_line, stdout);
+    fputs(usage_lines, stdout);
     fputs(help_text, stdout);
     return closed(FOUND);
 }
@@ -582,16 +596,18 @@ static rule rule_of(const char *bytes)
     return r;
 }
 
-/* Whether a SET is one position of a rule; if not, it has been told. */
+/* Whether a SET is one position of a rule; if not, it has been told. What 16 refuses is more than one: where its gap makes
+ * but one, that is optional, and stands beside another. */
 static bool one_position(const rule *set)
 {
     jazhuppe_prepared p = jazhuppe_prepare(set->bytes, set->length, set->fold);
+    bool more = p.positions > 1 || p.number == JAZHUPPE_OUTER_GAP;
 
-    if (p.number != 0)
-        refused_rule(set, p);
-    else if (p.positions != 1)
+    if (more)
         misused("SET is not one position of a rule: ", (const char *)set->bytes);
-    return p.number == 0 && p.positions == 1;
+    else if (p.number != 0)
+        refused_rule(set, p.number, p.place);
+    return p.number == 0 && !more;
 }
 
 /* Adds what -c was given to the rule's codes; false where it has said what is wrong. */
@@ -644,8 +660,25 @@ static bool accepted(const rule *r)
     if (p.number == JAZHUPPE_CODES)
         refused_codes();
     else if (p.number != 0)
-        refused_rule(r, p);
+        refused_rule(r, p.number, p.place);
     return p.number == 0;
+}
+
+/* Prints a stored rule's new text. */
+static int rewrite(const rule *r)
+{
+    uint8_t text[JAZHUPPE_REWRITE_BUFFER];
+    jazhuppe_text t = jazhuppe_rewrite(r->bytes, r->length, r->fold, text, sizeof text);
+
+    if (t.number == JAZHUPPE_RULE_LONG && r->length <= JAZHUPPE_RULE_MOST)
+        refused_rewriting();
+    else if (t.number != 0)
+        refused_rule(r, t.number, t.place);
+    if (t.number != 0)
+        return TROUBLE;
+    fwrite(text, 1, t.length, stdout);
+    end_line();
+    return FOUND;
 }
 
 int main(int argc, char **argv)
@@ -663,16 +696,22 @@ int main(int argc, char **argv)
             return print_help();
         if (strcmp(argv[at], "--version") == 0)
             return print_version();
-        if (!take_letters(argv, &at, &r, &printed))
+        if (strcmp(argv[at], "--rewrite") == 0)
+            printed = REWRITTEN;
+        else if (!take_letters(argv, &at, &r, &printed))
             return TROUBLE;
     }
     if (at == argc)
         return misused("RULE is missing", "");
     r.bytes = (const uint8_t *)argv[at];
     r.length = strlen(argv[at]);
+    signal(SIGPIPE, SIG_IGN);
+    if (printed == REWRITTEN && (at + 1 < argc || r.codes_count > 0))
+        return misused("--rewrite takes no FILE and no -c", "");
+    if (printed == REWRITTEN)
+        return closed(rewrite(&r));
     if (!accepted(&r))
         return TROUBLE;
-    signal(SIGPIPE, SIG_IGN);
     progress.wanted = isatty(STDERR_FILENO) != 0;
     return closed(find(&r, printed, argv + at + 1, argc - at - 1));
 }

@@ -10,7 +10,8 @@
  * gives that byte; . is any byte; [..] is a class of bytes and ranges lo-hi, turned round by a first ^; {a,b} is a gap
  * of a to b bytes of any kind; ? + * after an element other than a gap make it optional, repeatable, or both. A gap makes b
  * positions, every other element one; a rule has at most 255. With fold set (any number but 0) letters of A to Z and a to z
- * stand for both cases.
+ * stand for both cases. The first and the last element may not be a gap with a < b, which gives crowds of starts or ends for
+ * one seat; a stored rule goes through jazhuppe_rewrite, whose text is accepted with the same fold flag.
  *
  * TEXT. Places count decoded bytes: a start is counted from 0, an end is the count of bytes up to and including the
  * occurrence's last. A reference (&amp; &lt; &gt; &apos; &quot; &#38; &#x26; of at most 32 bytes, leading zeros included) is
@@ -30,7 +31,7 @@
  *   - nobody else touches the slices until the call returns;
  *   - a pointer may be NULL where its length is 0.
  *
- * Nothing else is asked: whatever the bytes and numbers in them, a call returns a finished result or one of the thirteen
+ * Nothing else is asked: whatever the bytes and numbers in them, a call returns a finished result or one of the fourteen
  * refusals below. A call keeps no pointer, allocates nothing and has no other state than what it is lent, so calls on
  * different slices may run at the same time.
  *
@@ -50,11 +51,11 @@ extern "C" {
 
 #define JAZHUPPE_VERSION "1.0.0"
 
-/* The refusals. 1 and 2 come first, then the leftmost of 3 to 7 (an element's own fault before 7), then 8.
- * An opening checks the rule, then 15, then 11; a call on a whole text the rule, then 15, 10, 9; a scan call 11, 12, 10, 9.
- * No call gives 13 or 14. */
+/* The refusals. 1 and 2 come first, then the leftmost of 3 to 7 (an element's own fault before 7), then 8, then 16.
+ * An opening checks the rule, then 15, then 11; a call on a whole text the rule, then 15, 10, 9; a scan call 11, 12, 10, 9;
+ * a rewriting 9, then the rule by 1 to 8 alone, then its finished text by 2. No call gives 13 or 14. */
 #define JAZHUPPE_RULE_EMPTY 1    /* rule of length 0; place 0 */
-#define JAZHUPPE_RULE_LONG 2     /* rule over 1,023 bytes; place 1,023 */
+#define JAZHUPPE_RULE_LONG 2     /* rule, or a rewriting's finished text, over 1,023 bytes; place 1,023 */
 #define JAZHUPPE_CLASS 3         /* class unclosed, empty, with a reversed range, a bad \ or misplaced -, or left with
                                     no byte; place of the [ */
 #define JAZHUPPE_GAP 4           /* gap not of the given form, a > b, or b = 0; place of the { */
@@ -69,6 +70,7 @@ extern "C" {
 #define JAZHUPPE_CODES 15        /* more than 8 codes, sets not of 32 bytes for each code, a code named twice, a set
                                     empty or with a code in it, or a position whose set, folded, is of codes alone;
                                     place 0 */
+#define JAZHUPPE_OUTER_GAP 16    /* the first or last element is a gap with a < b; place of the { of the first such gap */
 
 /* The limits. */
 #define JAZHUPPE_RULE_MOST 1023          /* bytes of a rule */
@@ -82,6 +84,9 @@ extern "C" {
 /* The entries that the list of a feed with a piece of so many bytes needs, and that of a finish. */
 #define JAZHUPPE_FEED_LIST(piece_len) ((piece_len) + JAZHUPPE_HELD_MOST)
 #define JAZHUPPE_FINISH_LIST JAZHUPPE_HELD_MOST
+
+/* The bytes that the buffer of a rewriting needs, however short the rule. */
+#define JAZHUPPE_REWRITE_BUFFER JAZHUPPE_RULE_MOST
 
 /* What a rule comes to. */
 typedef struct {
@@ -99,17 +104,31 @@ typedef struct {
     uint32_t windows;  /* windows tried by a search; 0 in every other answer */
 } jazhuppe_answer;
 
+/* What a call that writes a rule's text comes to. */
+typedef struct {
+    uint32_t number;  /* 0, or the refusal */
+    uint32_t place;   /* where in the rule, or in the finished text */
+    uint32_t length;  /* bytes written */
+} jazhuppe_text;
+
 /* A part of a text: its bytes from `from` up to, but without, `to`. */
 typedef struct {
     size_t from;
     size_t to;
 } jazhuppe_span;
 
-/* Looks at a rule. Refusals 1 to 8. */
+/* Looks at a rule. Refusals 1 to 8, 16. */
 jazhuppe_prepared jazhuppe_prepare(const uint8_t *rule, size_t rule_len, uint32_t fold);
 
+/* Rewrites a stored rule, with its fold flag, into one that 16 does not refuse. While the first element is a gap with
+ * a < b, it becomes a dots: none where a is 0, which bares the next element. Then the same from the back. A step at the
+ * front keeps the list of ends, one at the back the list of starts. Every other byte stays, and a rule without such gaps
+ * is copied. The buffer needs JAZHUPPE_REWRITE_BUFFER bytes.
+ * Refusals 9, 1 to 8, then 2 where the finished text is over 1,023 bytes. */
+jazhuppe_text jazhuppe_rewrite(const uint8_t *rule, size_t rule_len, uint32_t fold, uint8_t *out, size_t out_len);
+
 /* Opens a scan: writes the scan value, whole, whatever stood there. Its feeds read the plan with these codes.
- * Refusals 1 to 8, 15, then 11 where scan_len is not JAZHUPPE_SCAN_WORDS. */
+ * Refusals 1 to 8, 16, 15, then 11 where scan_len is not JAZHUPPE_SCAN_WORDS. */
 jazhuppe_prepared jazhuppe_open(const uint8_t *rule, size_t rule_len, uint32_t fold, const uint8_t *codes,
                                 size_t codes_len, const uint8_t *sets, size_t sets_len, uint64_t *scan, size_t scan_len);
 
@@ -129,7 +148,7 @@ jazhuppe_answer jazhuppe_finish(uint64_t *scan, size_t scan_len, uint32_t *ends,
 jazhuppe_answer jazhuppe_decode(const uint8_t *raw, size_t raw_len, uint8_t *out, size_t out_len);
 
 /* Searches a whole decoded text (it decodes nothing): writes the starts of occurrences, each once, rising. The list
- * needs text_len entries. Refusals 1 to 8, 15, 10, 9. */
+ * needs text_len entries. Refusals 1 to 8, 16, 15, 10, 9. */
 jazhuppe_answer jazhuppe_search(const uint8_t *rule, size_t rule_len, uint32_t fold, const uint8_t *codes,
                                 size_t codes_len, const uint8_t *sets, size_t sets_len, const uint8_t *text,
                                 size_t text_len, uint32_t *starts, size_t starts_len);

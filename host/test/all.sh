@@ -41,6 +41,7 @@ for option in -e -s -t; do
     try "program, watched, $option" watched "${PROGRAM:-build/jazhuppe}" "$option" 'Row A&B [0-9]+' host/sample.xml
     try "program, watched, $option -c" watched "${PROGRAM:-build/jazhuppe}" "$option" -c '1=[02-9]' 'Row A&B [2-9]+' host/sample.xml
 done
+try "program, watched, --rewrite" watched "${PROGRAM:-build/jazhuppe}" --rewrite '{0,9}{1,2}Row A&B [0-9]+{0,9}'
 try "command line" sh host/test/cli.sh
 [ "$failed" -eq 0 ] && echo "host tests: all ok"
 exit "$failed"

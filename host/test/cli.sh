@@ -100,8 +100,25 @@ expect "standard input as -, among files" 0 '-:3\n-:14\n-:25\n' '' 'Row' none -
 expect "standard input, texts" 0 '-:0:Row\n-:11:Row\n-:22:Row\n' '' -t 'Row'
 input=/dev/null
 
+# Stored rules.
+expect "--rewrite, front and back" 0 '.a..\n' '' --rewrite '{1,2}a{2,4}'
+expect "--rewrite, gaps that are bared" 0 '.{1,1}...\n' '' --rewrite '{0,1}{01,02}{1,1}{3,4}'
+expect "--rewrite, bytes that stay" 0 'Caf\0303\0251 [{1,2}]+\\\\.\n' '' --rewrite 'Café [{1,2}]+\\{1,2}'
+expect "--rewrite, a rule without outer gaps" 0 'Row A&B [0-9]+\n' '' --rewrite 'Row A&B [0-9]+'
+expect "--rewrite after -i" 0 'row\n' '' -i --rewrite 'row{0,9}'
+expect "--rewrite before -i" 0 'row\n' '' --rewrite -i 'row{0,9}'
+expect "--rewrite of a rule that begins with -" 0 '-x\n' '' --rewrite -- '-x{0,9}'
+expect "--rewrite, the last counts" 0 '.Row\n' '' -s --rewrite '{1,2}Row'
+expect "-s after --rewrite, the last counts" 0 '0\n11\n22\n' '' --rewrite -s 'Row' three
+rewritten() {
+    "$program" --rewrite "$1" > rule && [ "$("$program" -e "$(cat rule)" three)" = "$2" ]
+}
+holds "what is rewritten is taken" rewritten '{1,9}&B [0-9]{0,9}' '9
+20
+31'
+
 # Trouble.
-usage='usage: jazhuppe [-i] [-c CODE=SET]... [-e | -s | -t] RULE [FILE...]\n'
+usage='usage: jazhuppe [-i] [-c CODE=SET]... [-e | -s | -t] RULE [FILE...]\n       jazhuppe [-i] --rewrite RULE\n'
 expect "a plan that is not there" 2 'three:3\nthree:14\nthree:25\n' 'jazhuppe: gone: No such file or directory\n' \
     'Row' gone three
 expect "a folder" 2 '' 'jazhuppe: .: Is a directory\n' 'Row' .
@@ -113,12 +130,19 @@ for code in '?' '' '=' 'é=a' '??=a' '0x1=a' '0xG0=a' '0x0G=a' '0x100=a'; do
     expect "-c '$code'" 2 '' "jazhuppe: not CODE=SET, with CODE one byte or 0xHH: $code\n${usage}Try 'jazhuppe --help'.\n" \
         -c "$code" 'Row' three
 done
-for set in ab '[a]b' '{1,2}' '..' 'a?b'; do
+for set in ab '[a]b' '{1,2}' '{0,1}a' '{2,2}' '..' 'a?b'; do
     expect "-c '?=$set'" 2 '' "jazhuppe: SET is not one position of a rule: $set\n${usage}Try 'jazhuppe --help'.\n" \
         -c "?=$set" 'Row' three
 done
 expect "nine codes" 2 '' "jazhuppe: more than 8 codes: 9=a\n${usage}Try 'jazhuppe --help'.\n" \
     -c '1=a' -c '2=a' -c '3=a' -c '4=a' -c '5=a' -c '6=a' -c '7=a' -c '8=a' -c '9=a' 'Row' three
+expect "--rewrite without a rule" 2 '' "jazhuppe: RULE is missing\n${usage}Try 'jazhuppe --help'.\n" --rewrite
+for more in three -; do
+    expect "--rewrite and $more" 2 '' "jazhuppe: --rewrite takes no FILE and no -c\n${usage}Try 'jazhuppe --help'.\n" \
+        --rewrite 'a{1,2}' "$more"
+done
+expect "--rewrite and -c" 2 '' "jazhuppe: --rewrite takes no FILE and no -c\n${usage}Try 'jazhuppe --help'.\n" \
+    -c '?=a' --rewrite 'a{1,2}'
 expect "no such long option" 2 '' "jazhuppe: no such option: --fold\n${usage}Try 'jazhuppe --help'.\n" --fold 'Row'
 
 # Refusals, with a caret under the place.
@@ -147,6 +171,24 @@ expect "refused 15, codes alone" 2 '' "$codes" -c 'R=a' 'Row' gone
 expect "codes alone but for fold" 0 '3\n14\n25\n' '' -i -c 'R=r' 'Row' three
 expect "the rule before 15" 2 '' 'jazhuppe: refused 8 at 2: the rule admits the empty string\n  a?\n    ^\n' -c '?=.' 'a?' gone
 
+outer="jazhuppe: refused 16 at"
+words="the rule begins or ends with a gap {a,b} with a < b"
+hint="Try 'jazhuppe --rewrite RULE'.\n"
+expect "refused 16, at the front" 2 '' "$outer 0: $words\n  {1,2}a{1,2}\n  ^\n$hint" '{1,2}a{1,2}' gone
+expect "refused 16, at the back" 2 '' "$outer 4: $words\n  Row {0,9}\n      ^\n$hint" -i -t 'Row {0,9}' gone
+expect "16 before 15" 2 '' "$outer 0: $words\n  {1,2}R\n  ^\n$hint" -c 'R=a' '{1,2}R' gone
+expect "8 before 16" 2 '' 'jazhuppe: refused 8 at 5: the rule admits the empty string\n  {0,1}\n       ^\n' '{0,1}'
+expect "--rewrite refused by 5" 2 '' 'jazhuppe: refused 5 at 5: ?, + or * first, after a gap, or after another of them
+  {1,2}?\n       ^\n' --rewrite '{1,2}?'
+expect "--rewrite refused by 8" 2 '' 'jazhuppe: refused 8 at 5: the rule admits the empty string\n  {0,1}\n       ^\n' \
+    --rewrite '{0,1}'
+expect "--rewrite refused by 2" 2 '' "jazhuppe: refused 2 at 1023: the rule is over 1,023 bytes
+  $(printf '%076d' 0)\n$(printf '%62s' '')^\n" --rewrite "$long"
+expect "--rewrite, a finished text of 1,023 bytes" 0 "$(printf '%098d' 0 | tr 0 .)[$(printf '%0923d' 0)]\n" '' \
+    --rewrite "{98,99}[$(printf '%0923d' 0)]"
+expect "--rewrite, one of 1,024 refused by 2" 2 '' 'jazhuppe: refused 2 at 1023: the rewritten rule is over 1,023 bytes\n' \
+    --rewrite "{98,99}[$(printf '%0924d' 0)]"
+
 # Help.
 version=$(sed -n 's/^#define JAZHUPPE_VERSION "\(.*\)"/\1/p' "$header")
 expect "--version" 0 "jazhuppe $version\n" '' --version
@@ -170,6 +212,8 @@ holds "a padded one of 32 bytes" cut_everywhere "&#$(printf '%029d' 38);"
 if [ -w /dev/full ]; then
     "$program" 'Row' three > /dev/full 2> err
     holds "a full disk is trouble" [ "$? $(cat err)" = "2 jazhuppe: standard output: No space left on device" ]
+    "$program" --rewrite 'Row' > /dev/full 2> err
+    holds "for --rewrite too" [ "$? $(cat err)" = "2 jazhuppe: standard output: No space left on device" ]
 fi
 yes a | head -c 1000000 > many
 { "$program" 'a' many 2> err; echo $? > status; } | head -n 1 > out

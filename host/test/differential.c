@@ -19,7 +19,7 @@
 
 enum {
     WORDS = JAZHUPPE_SCAN_WORDS,
-    REFUSALS = JAZHUPPE_CODES,
+    REFUSALS = JAZHUPPE_OUTER_GAP,
     RULE_ROOM = JAZHUPPE_RULE_MOST + 80,
     CODES_ROOM = 300,
     SETS_MOST = JAZHUPPE_CODES_MOST + 3,
@@ -28,8 +28,8 @@ enum {
 };
 
 typedef struct {
-    uint8_t rule[RULE_ROOM];
-    size_t rule_len;
+    uint8_t stored[RULE_ROOM], rule[RULE_ROOM]; /* as it was drawn, and as it is tried: most often without outer gaps */
+    size_t stored_len, rule_len;
     uint32_t fold;
     uint8_t codes[CODES_ROOM], sets[SETS_ROOM];
     size_t codes_len, sets_len;
@@ -61,10 +61,10 @@ static bool one_in(uint32_t n)
 
 /* ---- what was asked, for the report of a difference */
 
-enum { PREPARE, OPEN, FEED, FINISH, DECODE, SEARCH, SHOW, CALLS };
-static const char *const call_names[CALLS] = {"prepare", "open", "feed", "finish", "decode", "search", "show"};
+enum { PREPARE, REWRITE, OPEN, FEED, FINISH, DECODE, SEARCH, SHOW, CALLS };
+static const char *const call_names[CALLS] = {"prepare", "rewrite", "open", "feed", "finish", "decode", "search", "show"};
 static unsigned long counts[CALLS][REFUSALS + 1], ends_seen, starts_seen, shown_seen, windows_seen, held_seen, decoded_seen,
-    smudged_seen, smudges_seen;
+    smudged_seen, smudges_seen, rewritten_seen, kept_ends_seen, kept_starts_seen;
 
 static char asked[16384];
 static size_t asked_len;
@@ -101,6 +101,7 @@ static void print_list(const char *name, const uint32_t *list, size_t count)
 static void different(const char *what)
 {
     printf("DIFFERENCE in %s: seed %llu, case %u\n", what, seed, case_number);
+    print_bytes("stored", now.stored, now.stored_len);
     print_bytes("rule", now.rule, now.rule_len);
     printf("fold: %lu\n", (unsigned long)now.fold);
     print_bytes("codes", now.codes, now.codes_len);
@@ -122,6 +123,18 @@ static void hold_prepared(int call, jazhuppe_prepared given, jazhuppe_prepared e
     printf("expected %lu at %lu, positions %lu, shortest %lu\n", (unsigned long)expected.number,
            (unsigned long)expected.place, (unsigned long)expected.positions, (unsigned long)expected.shortest);
     different(call_names[call]);
+}
+
+static void hold_text(jazhuppe_text given, jazhuppe_text expected)
+{
+    counts[REWRITE][expected.number % (REFUSALS + 1)]++;
+    if (memcmp(&given, &expected, sizeof given) == 0)
+        return;
+    printf("given %lu at %lu, length %lu\n", (unsigned long)given.number, (unsigned long)given.place,
+           (unsigned long)given.length);
+    printf("expected %lu at %lu, length %lu\n", (unsigned long)expected.number, (unsigned long)expected.place,
+           (unsigned long)expected.length);
+    different(call_names[REWRITE]);
 }
 
 static void print_answer(const char *name, jazhuppe_answer a)
@@ -213,14 +226,58 @@ static void put_class(void)
     put(']');
 }
 
+/* Every byte but A, turned round: the fold flag leaves none of it. */
+static void put_class_of_A(void)
+{
+    static const uint8_t class_of_A[] = {'[', '^', 0, '-', '@', 'B', '-', 255, ']'};
+
+    for (size_t i = 0; i < sizeof class_of_A; i++)
+        put(class_of_A[i]);
+}
+
+static void put_bounds(uint32_t lo, uint32_t hi)
+{
+    char gap[32];
+
+    snprintf(gap, sizeof gap, one_in(20) ? "{%02lu,%02lu}" : "{%lu,%lu}", (unsigned long)lo, (unsigned long)hi);
+    put_text(gap);
+}
+
 static void put_gap(void)
 {
     uint32_t lo = below(one_in(6) ? 64 : 3), hi = lo + below(one_in(6) ? 64 : 3);
-    char gap[32];
 
-    snprintf(gap, sizeof gap, one_in(20) ? "{%02lu,%02lu}" : "{%lu,%lu}", (unsigned long)lo,
-             (unsigned long)(hi == 0 && !one_in(20) ? 1 : hi));
-    put_text(gap);
+    put_bounds(lo, hi == 0 && !one_in(20) ? 1 : hi);
+}
+
+/* For the front or back of a rule: gaps, of which those from 0 bare the next, and what only looks like them. */
+static void put_outer(void)
+{
+    static const char *const others[] = {
+        "{2,2}", "{1,1}", "{00,03}", "{01,02}", "{98,99}", "\\{1,2\\}", "[{1,2}]", "[{0,1}]*", "[\\]{0,1}]", ".", "\\}",
+    };
+
+    for (uint32_t n = 1 + below(3); n > 0; n--)
+        if (one_in(2))
+            put_bounds(0, 1 + below(3));
+        else if (one_in(2))
+            put_gap();
+        else
+            put_text(others[below(sizeof others / sizeof others[0])]);
+}
+
+/* One long class after a gap, or between two: with dots for these it would end about the limit. */
+static void put_wide(void)
+{
+    uint32_t front = below(99), back = one_in(2) ? 0 : below(99), finished = JAZHUPPE_RULE_MOST - 3 + below(7);
+
+    put_bounds(front, front + 1 + below(99 - front));
+    put('[');
+    for (uint32_t n = finished - front - back - 2; n > 0; n--)
+        put('a');
+    put(']');
+    if (back > 0 || one_in(2))
+        put_bounds(back, back + 1 + below(99 - back));
 }
 
 static void put_element(void)
@@ -239,6 +296,8 @@ static void put_element(void)
         put_class();
     else if (kind < 18)
         put_gap();
+    else if (one_in(20))
+        put_class_of_A();
     else if (one_in(6))
         put_text(odd[below(sizeof odd / sizeof odd[0])]);
     if ((kind < 15 && one_in(2)) || one_in(60))
@@ -259,13 +318,38 @@ static void make_rule(void)
             put('a');
         put(']');
     }
+    if (one_in(6))
+        put_outer();
     while (elements-- > 0)
         put_element();
+    if (one_in(6))
+        put_outer();
     if (one_in(100))
         while (now.rule_len < JAZHUPPE_RULE_MOST + 1 + below(60))
             put_byte(any_letter());
     if (now.rule_len > 0 && one_in(25))
         now.rule[below((uint32_t)now.rule_len)] = (uint8_t)below(256);
+}
+
+/* Keeps the rule as the stored one too. */
+static void store_rule(void)
+{
+    memcpy(now.stored, now.rule, now.rule_len);
+    now.stored_len = now.rule_len;
+}
+
+/* Goes on with the rewriting most often where outer gaps refuse the rule, as nothing more would come of it. */
+static void retire_outer_gaps(void)
+{
+    second_rewriting w;
+
+    if (second_read(now.rule, now.rule_len, now.fold).number != JAZHUPPE_OUTER_GAP || one_in(10))
+        return;
+    w = second_rewritten(now.rule, now.rule_len);
+    if (w.length > JAZHUPPE_RULE_MOST)
+        return;
+    memcpy(now.rule, w.text, w.length);
+    now.rule_len = w.length;
 }
 
 /* ---- codes */
@@ -332,11 +416,14 @@ static void draw_codes(void)
         now.sets_len = one_in(2) && now.sets_len < SETS_ROOM ? now.sets_len + 1 : below(SETS_ROOM + 1);
 }
 
-/* Reads the rule, and codes for it: most often such as are accepted with it. */
+/* Reads the rule that was drawn, and codes for it: most often such as are accepted with it. */
 static void read_with_codes(void)
 {
-    second_rule alone = second_read(now.rule, now.rule_len, now.fold);
+    second_rule alone;
 
+    store_rule();
+    retire_outer_gaps();
+    alone = second_read(now.rule, now.rule_len, now.fold);
     do {
         draw_codes();
         now.read = alone;
@@ -494,13 +581,11 @@ static void put_positions(uint32_t count)
 
     while (count > 0) {
         uint32_t made = (uint32_t)JAZHUPPE_POSITIONS_MOST - count, border = 64 - (made + 1) % 64, most = count < 99 ? count : 99;
-        char gap[32];
 
         if (marks > 0 && most > 1 && one_in(border < 4 ? 8 : 200)) {
             uint32_t hi = 1 + below(most);
 
-            snprintf(gap, sizeof gap, "{%lu,%lu}", (unsigned long)below(hi + 1), (unsigned long)hi);
-            put_text(gap);
+            put_bounds(below(hi + 1), hi);
             count -= hi;
             continue;
         }
@@ -536,6 +621,16 @@ static void make_long(void)
         else
             plan_byte((uint8_t)('a' + below(3)));
     }
+}
+
+/* A rule whose rewriting may be too long. */
+static void make_wide(void)
+{
+    now.rule_len = 0;
+    now.fold = one_in(3);
+    put_wide();
+    read_with_codes();
+    make_plan();
 }
 
 /* A list's or buffer's length: what is needed, one less, none, or more. */
@@ -710,6 +805,114 @@ static void try_scan(void)
     }
 }
 
+/* ---- stored rules */
+
+/* Into a buffer of as many bytes as it needs, fewer or more. */
+static void try_rewrite(uint32_t fold)
+{
+    uint8_t expected_out[JAZHUPPE_REWRITE_BUFFER];
+    size_t room = list_length(JAZHUPPE_REWRITE_BUFFER);
+    jazhuppe_text expected = second_rewrite(now.stored, now.stored_len, fold, expected_out, room);
+    const uint8_t *stored = lend_bytes(&rule_room, now.stored, now.stored_len);
+    uint8_t *out = lend(&list_room, room);
+
+    note("rewrite of the stored rule with fold %lu into %zu\n", (unsigned long)fold, room);
+    hold_text(jazhuppe_rewrite(stored, now.stored_len, fold, out, room), expected);
+    hold_lent();
+    if (!untouched_past(&list_room, expected.length))
+        different("bytes past those rewritten, or around the buffer");
+    if (memcmp(out, expected_out, expected.length) != 0) {
+        print_bytes("given", out, expected.length);
+        different("rewrite");
+    }
+}
+
+/* A rewriting is accepted, and is its own rewriting. */
+static void try_again(const uint8_t *rewritten, size_t length)
+{
+    const uint8_t *rule = lend_bytes(&rule_room, rewritten, length);
+    uint8_t *out = lend(&list_room, JAZHUPPE_REWRITE_BUFFER);
+    jazhuppe_text same = {0, 0, (uint32_t)length};
+
+    note("prepare and rewrite of the rewriting\n");
+    if (jazhuppe_prepare(rule, length, now.fold).number != 0)
+        different("a rewriting that is refused");
+    hold_text(jazhuppe_rewrite(rule, length, now.fold, out, JAZHUPPE_REWRITE_BUFFER), same);
+    if (memcmp(out, rewritten, length) != 0)
+        different("a rewriting rewritten");
+}
+
+/* The ends that the finder gives of a rule in the plan: their count. */
+static size_t finder_ends(const uint8_t *rule, size_t length, uint32_t *ends)
+{
+    static uint64_t value[WORDS];
+    size_t count;
+
+    if (jazhuppe_open(rule, length, now.fold, now.codes, now.codes_len, now.sets, now.sets_len, value, WORDS).number != 0)
+        different("an opening with a rewriting");
+    count = jazhuppe_feed(value, WORDS, now.plan, now.plan_len, ends, JAZHUPPE_FEED_LIST(now.plan_len)).count;
+    return count + jazhuppe_finish(value, WORDS, ends + count, JAZHUPPE_FINISH_LIST).count;
+}
+
+static size_t finder_starts(const uint8_t *rule, size_t length, uint32_t *starts)
+{
+    jazhuppe_answer a = jazhuppe_search(rule, length, now.fold, now.codes, now.codes_len, now.sets, now.sets_len, now.text,
+                                        now.text_len, starts, now.text_len);
+
+    if (a.number != 0)
+        different("a search with a rewriting");
+    return a.count;
+}
+
+static void hold_kept(const char *what, const uint32_t *given, size_t count, const uint32_t *expected, size_t kept)
+{
+    if (count == kept && memcmp(given, expected, kept * sizeof *expected) == 0)
+        return;
+    print_list("given", given, count);
+    print_list("expected", expected, kept);
+    different(what);
+}
+
+/* What the finder finds with the rewriting, where all its steps were at one side: the stored rule's own ends or starts. */
+static void try_kept(const second_rule *stored, const second_rewriting *w)
+{
+    static uint32_t given[JAZHUPPE_FEED_LIST(PLAN_MOST) + JAZHUPPE_FINISH_LIST], expected[PLAN_MOST];
+    size_t kept;
+
+    if (w->back == 0) {
+        kept = second_ends(stored, now.text, now.text_len, expected);
+        hold_kept("the ends of a rewriting", given, finder_ends(w->text, w->length, given), expected, kept);
+        kept_ends_seen += kept;
+    } else if (w->front == 0) {
+        kept = second_starts(stored, now.text, now.text_len, expected);
+        hold_kept("the starts of a rewriting", given, finder_starts(w->text, w->length, given), expected, kept);
+        kept_starts_seen += kept;
+    }
+}
+
+static void try_stored(void)
+{
+    second_rule stored = second_read_stored(now.stored, now.stored_len, now.fold);
+    second_rewriting w;
+
+    note("prepare of the stored rule\n");
+    hold_prepared(PREPARE, jazhuppe_prepare(lend_bytes(&rule_room, now.stored, now.stored_len), now.stored_len, now.fold),
+                  second_prepare(now.stored, now.stored_len, now.fold));
+    try_rewrite(now.fold);
+    try_rewrite(!now.fold);
+    if (stored.number != 0)
+        return;
+    w = second_rewritten(now.stored, now.stored_len);
+    if (w.length > JAZHUPPE_RULE_MOST)
+        return;
+    try_again(w.text, w.length);
+    second_read_codes(&stored, now.codes, now.codes_len, now.sets, now.sets_len);
+    if (w.front + w.back == 0 || stored.number != 0)
+        return;
+    rewritten_seen++;
+    try_kept(&stored, &w);
+}
+
 /* ---- calls on a whole text */
 
 static void try_decode(void)
@@ -795,6 +998,7 @@ static void try_case(void)
     note("prepare\n");
     hold_prepared(PREPARE, jazhuppe_prepare(lend_rule(), now.rule_len, now.fold),
                   second_prepare(now.rule, now.rule_len, now.fold));
+    try_stored();
     try_decode();
     try_scan();
     try_search();
@@ -804,7 +1008,9 @@ static void try_case(void)
 
 static void draw_case(void)
 {
-    if (one_in(700)) {
+    if (one_in(150)) {
+        make_wide();
+    } else if (one_in(700)) {
         make_hostile();
     } else if (one_in(500)) {
         make_dense();
@@ -868,6 +1074,7 @@ static void try_often(const char *rule, uint32_t fold, const char *plan, char *c
     now.rule_len = 0;
     now.fold = fold;
     put_text(rule);
+    store_rule();
     now.read = second_read(now.rule, now.rule_len, now.fold);
     take_written_codes(codes);
     second_read_codes(&now.read, now.codes, now.codes_len, now.sets, now.sets_len);
@@ -939,6 +1146,8 @@ static void print_counts(void)
     }
     printf("plans with references %lu, calls that held bytes back %lu\n", decoded_seen, held_seen);
     printf("cases with codes %lu, code bytes in their texts %lu\n", smudged_seen, smudges_seen);
+    printf("rules with outer gaps, rewritten %lu, ends kept %lu, starts kept %lu\n", rewritten_seen, kept_ends_seen,
+           kept_starts_seen);
     printf("ends %lu, starts %lu, shown %lu, windows %lu\n", ends_seen, starts_seen, shown_seen, windows_seen);
 }
 

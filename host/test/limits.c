@@ -36,6 +36,7 @@ static void test_whole_text(void)
     jazhuppe_span shown = jazhuppe_show(rule, 1, 0, text, over, 0);
 
     CHECK(answers(jazhuppe_search(rule, 2, 0, NO_CODES, text, over, list, 9), JAZHUPPE_ADMITS_EMPTY, 2));
+    CHECK(answers(jazhuppe_search((const uint8_t *)"a{1,2}", 6, 0, NO_CODES, text, over, list, 9), JAZHUPPE_OUTER_GAP, 1));
     CHECK(answers(jazhuppe_search(rule, 1, 0, NO_CODES, text, over, list, 9), JAZHUPPE_TOO_MUCH, 0));
     CHECK(answers(jazhuppe_search(rule, 1, 0, NO_CODES, text, most, list, 9), JAZHUPPE_TOO_SHORT, 0));
     CHECK(answers(jazhuppe_decode(text, over, list, 9), JAZHUPPE_TOO_MUCH, 0));
@@ -67,6 +68,7 @@ static void test_codes(void)
     size_t set = JAZHUPPE_SET_BYTES;
 
     CHECK(answers(jazhuppe_search(rule, 2, 0, many, 9, many, 9 * set, text, over, list, 9), JAZHUPPE_ADMITS_EMPTY, 2));
+    CHECK(jazhuppe_open((const uint8_t *)"{1,2}", 5, 0, many, over, NULL, 0, scan, WORDS).number == JAZHUPPE_OUTER_GAP);
     CHECK(answers(jazhuppe_search(rule, 1, 0, many, 9, many, 9 * set, text, over, list, 9), JAZHUPPE_CODES, 0));
     CHECK(answers(jazhuppe_search(rule, 1, 0, many, 9, NULL, 0, text, over, list, 9), JAZHUPPE_CODES, 0));
     CHECK(answers(jazhuppe_search(rule, 1, 0, code, 1, many, set - 1, text, over, list, 9), JAZHUPPE_CODES, 0));
@@ -80,6 +82,23 @@ static void test_codes(void)
     CHECK(untouched(&list_room) && untouched(&scan_room));
     munmap((void *)text, over);
     munmap((void *)many, over + JAZHUPPE_SET_BYTES);
+}
+
+/* 9, then the rule: no byte of one that is too long is touched, nor any of the buffer but those of the text. */
+static void test_rewriting(void)
+{
+    const uint8_t *rule = untouchable_memory(over + 1);
+    uint8_t *out = lazy_memory(over + JAZHUPPE_REWRITE_BUFFER);
+    jazhuppe_text t = jazhuppe_rewrite(rule, over + 1, 0, out, JAZHUPPE_REWRITE_BUFFER - 1);
+
+    CHECK(t.number == JAZHUPPE_TOO_SHORT && t.place == 0 && t.length == 0);
+    /* Cut to 32 bits, these lengths are 1 and 1,022. */
+    t = jazhuppe_rewrite(rule, over + 1, 0, out, JAZHUPPE_REWRITE_BUFFER);
+    CHECK(t.number == JAZHUPPE_RULE_LONG && t.place == JAZHUPPE_RULE_MOST && t.length == 0);
+    t = jazhuppe_rewrite((const uint8_t *)"{1,2}a", 6, 0, out, over + JAZHUPPE_REWRITE_BUFFER - 1);
+    CHECK(t.number == 0 && t.place == 0 && t.length == 2 && memcmp(out, ".a", 3) == 0);
+    munmap((void *)rule, over + 1);
+    munmap(out, over + JAZHUPPE_REWRITE_BUFFER);
 }
 
 /* One piece over the limit; and the needed length, JAZHUPPE_FEED_LIST, is not cut to 32 bits. */
@@ -156,6 +175,7 @@ int main(void)
     run("10: a text over the limit, after the rule and before 9, untouched", test_whole_text);
     run("10: with lists that are long enough", test_long_lists);
     run("15: before 10, and lengths that are not cut to 32 bits", test_codes);
+    run("a rewriting, and lengths that are not cut to 32 bits", test_rewriting);
     run("10: a piece over the limit; 9 just below it", test_piece);
     run("10: the last bytes of a plan, one by one", test_last_bytes);
     run("10: held bytes at the limit", test_last_held);

@@ -1,5 +1,5 @@
-/* marked.c: the requirement's marked table, its lister example, the fold, codes, and the header's constants, through the
- * header. */
+/* marked.c: the requirement's marked table, its lister example, the fold, codes, rewritings of stored rules, and the
+ * header's constants, through the header. */
 #include <ctype.h>
 #include <stdio.h>
 #include <string.h>
@@ -34,7 +34,9 @@ static const marked table[] = {
     {"M4", "a+", "aaa", 1, 1, {3, {1, 2, 3}}, {3, {0, 1, 2}}, 3, {3, {1, 2, 3}}},
     {"M5", "ab?", "ab", 2, 1, {2, {1, 2}}, {1, {0}}, 2, {1, {1}}},
     {"M6", "a?b", "ab", 2, 1, {1, {2}}, {2, {0, 1}}, 2, {2, {2, 2}}},
-    {"M7", "{1,2}a", "xxa", 3, 2, {1, {3}}, {2, {0, 1}}, 2, {2, {3, 3}}},
+    /* In M7's place, which is refused now: moving by the shortest length after an occurrence would lose start 1. */
+    {".?.a", ".?.a", "xxa", 3, 2, {1, {3}}, {2, {0, 1}}, 2, {2, {3, 3}}},
+    {"M7, rewritten", ".a", "xxa", 2, 2, {1, {3}}, {1, {1}}, 2, {1, {3}}},
     {"M8", "a", "", 1, 1, {0, {0}}, {0, {0}}, 0, {0, {0}}},
     {"lister", "Row A&B [0-9]+", "Row A&B 12;", 9, 9, {2, {9, 10}}, {1, {0}}, 1, {1, {9}}},
 };
@@ -535,7 +537,8 @@ static const smudged smudged_table[] = {
     {"?a", 0, "a+", "a?a", {3, {1, 2, 3}}, {3, {0, 1, 2}}, 3},
     {"?bc", 0, "ab?c", "a??", {2, {2, 3}}, {1, {0}}, 1},
     {"?a", 0, "xa*y", "x??ay", {1, {5}}, {1, {0}}, 2},
-    {"?-", 0, "{1,2}a", "??a", {1, {3}}, {2, {0, 1}}, 2},
+    {"?-", 0, ".?.a", "??a", {1, {3}}, {2, {0, 1}}, 2},
+    {"?a", 0, "a{1,2}b", "??xb", {1, {4}}, {2, {0, 1}}, 2},
     /* Windows 0, 1 and 3: a code in a window shortens the move from it. */
     {"?abc", 0, "abc", "a??abc", {2, {3, 6}}, {2, {0, 3}}, 3},
     {"?x", 0, "abc", "a??abc", {1, {6}}, {1, {3}}, 2},
@@ -781,23 +784,164 @@ static void test_codes_and_other_answers(void)
     name_nothing();
 }
 
+/* ---- stored rules */
+
+/* Into a buffer of so many bytes, in which it writes as many as it reports and no other. */
+static jazhuppe_text rewrite(const char *rule, size_t length, uint32_t folded, size_t room)
+{
+    uint8_t *out = lend(&list_room, room);
+    jazhuppe_text t = jazhuppe_rewrite(lend_bytes(&rule_room, rule, length), length, folded, out, room);
+
+    CHECK(t.length <= room && (t.number == 0 || t.length == 0));
+    CHECK(untouched_past(&list_room, t.length) && untouched(&rule_room));
+    return t;
+}
+
+static bool is_rewritten(const char *rule, uint32_t folded, size_t room, const char *text)
+{
+    jazhuppe_text t = rewrite(rule, strlen(rule), folded, room);
+
+    return t.number == 0 && t.place == 0 && t.length == strlen(text) && memcmp(list_room.slice, text, t.length) == 0;
+}
+
+/* The stored rule becomes the text, which is accepted and stays as it is. */
+static void becomes(const char *rule, const char *text)
+{
+    about("%.200s, rewritten", rule);
+    CHECK(is_rewritten(rule, 0, JAZHUPPE_REWRITE_BUFFER, text));
+    CHECK(is_rewritten(rule, 1, JAZHUPPE_REWRITE_BUFFER + 7, text));
+    CHECK(is_rewritten(text, 0, JAZHUPPE_REWRITE_BUFFER, text));
+    CHECK(jazhuppe_prepare(lend_rule(text), strlen(text), 0).number == 0);
+}
+
+static void test_rewritings(void)
+{
+    static const char *const stored[][2] = {
+        {"{1,2}a", ".a"}, {"a{1,2}", "a."}, {"{3,5}", "..."}, {"{1,2}a{2,4}", ".a.."}, {"{1,99}", "."},
+        /* None where a is 0: the next element is bared, and may be a gap. */
+        {"{0,1}a", "a"}, {"a{0,1}", "a"}, {"{0,2}{1,3}", "."}, {"{1,3}{0,2}", "."}, {"{0,2}{0,1}a{0,3}{0,2}", "a"},
+        {"{0,1}{2,3}{0,4}a", "..{0,4}a"}, {"a{0,4}{2,3}{0,1}", "a{0,4}.."}, {"{0,1}a?{1,2}", "a?."},
+        /* Dots bare nothing, nor does an equal gap. */
+        {"{1,2}{0,3}a", ".{0,3}a"}, {"a{0,3}{1,2}", "a{0,3}."}, {"{1,2}{0,3}", "."}, {"{1,2}{3,4}", "...."},
+        {"{0,1}{2,2}a", "{2,2}a"}, {"{2,2}{0,3}a", "{2,2}{0,3}a"}, {"{2,2}", "{2,2}"}, {"{2,2}{0,3}", "{2,2}"},
+        /* What stays, stays byte for byte. */
+        {"{0,1}{01,02}{1,1}{3,4}", ".{1,1}..."}, {"a{01,02}b{00,09}", "a{01,02}b"},
+        {"{00,02}[^\\]]*\\-+{02,03}", "[^\\]]*\\-+.."},
+        {"a", "a"}, {"a{1,2}b", "a{1,2}b"}, {".?.a", ".?.a"}, {"Row A&B [0-9]+", "Row A&B [0-9]+"},
+        /* No gaps. */
+        {"a\\{1,2\\}", "a\\{1,2\\}"}, {"[{1,2}]+", "[{1,2}]+"}, {"\\{[}{0,1}]", "\\{[}{0,1}]"},
+        {"{0,1}\\{1,2\\}{0,1}", "\\{1,2\\}"}, {"\\\\{1,2}", "\\\\."}, {"[[]{1,2}", "[[]."},
+    };
+
+    for (size_t i = 0; i < sizeof stored / sizeof stored[0]; i++)
+        becomes(stored[i][0], stored[i][1]);
+}
+
+/* In so many bytes. */
+static void put_class(char *to, size_t bytes)
+{
+    put(to, "[", 1);
+    put(to, "a", bytes - 2);
+    put(to, "]", 1);
+}
+
+static void put_class_between(const char *front, size_t bytes, const char *back)
+{
+    begin();
+    put(long_rule, front, 1);
+    put_class(long_rule, bytes);
+    put(long_rule, back, 1);
+}
+
+/* The long rule becomes the class between so many dots. */
+static void becomes_dotted(size_t front, size_t bytes, size_t back)
+{
+    put(long_text, ".", front);
+    put_class(long_text, bytes);
+    put(long_text, ".", back);
+    becomes(long_rule, long_text);
+}
+
+static void becomes_too_long(void)
+{
+    jazhuppe_text t = rewrite(long_rule, strlen(long_rule), 0, 2 * JAZHUPPE_REWRITE_BUFFER);
+
+    about("%.200s, rewritten", long_rule);
+    CHECK(t.number == JAZHUPPE_RULE_LONG && t.place == JAZHUPPE_RULE_MOST);
+}
+
+/* As long as may be, longer between the steps, and one byte too long in the end. */
+static void test_rewriting_lengths(void)
+{
+    put_class_between("{98,99}", 925, "");
+    becomes_dotted(98, 925, 0);
+    put_class_between("{50,99}", 923, "{50,99}");
+    becomes_dotted(50, 923, 50);
+    put_class_between("", JAZHUPPE_RULE_MOST, "");
+    becomes_dotted(0, JAZHUPPE_RULE_MOST, 0);
+    put_class_between("{98,99}", 922, "{0,1}");
+    becomes_dotted(98, 922, 0);
+    put_class_between("{98,99}", 926, "");
+    becomes_too_long();
+    put_class_between("", 926, "{98,99}");
+    becomes_too_long();
+    put_class_between("{50,99}", 924, "{50,99}");
+    becomes_too_long();
+}
+
+/* A rule of 1,024 bytes, which its steps would shorten; the class that the fold flag leaves with no byte. */
+static void test_rewriting_old_answers(void)
+{
+    static const char large[] = {'[', '^', 0, '-', '@', 'B', '-', (char)255, ']'};
+    jazhuppe_text t;
+
+    put_class_between("{0,1}", JAZHUPPE_RULE_MOST - 9, "{0,1}");
+    becomes_too_long();
+    t = rewrite(large, sizeof large, 0, JAZHUPPE_REWRITE_BUFFER);
+    CHECK(t.number == 0 && t.length == sizeof large && memcmp(list_room.slice, large, sizeof large) == 0);
+    t = rewrite(large, sizeof large, 256, JAZHUPPE_REWRITE_BUFFER);
+    CHECK(t.number == JAZHUPPE_CLASS && t.place == 0);
+}
+
+/* Just long enough, one byte too short, and as long as the text alone. */
+static void test_rewrite_buffer(void)
+{
+    CHECK(is_rewritten("a{0,1}", 0, JAZHUPPE_REWRITE_BUFFER, "a"));
+    CHECK(rewrite("a{0,1}", 6, 0, JAZHUPPE_REWRITE_BUFFER - 1).number == JAZHUPPE_TOO_SHORT);
+    CHECK(rewrite("a{0,1}", 6, 0, 1).number == JAZHUPPE_TOO_SHORT);
+}
+
 /* ---- refusals and limits */
+
+static void hold_refused(const char *spelt, const char *plan, uint32_t number, uint32_t place)
+{
+    size_t length = strlen(spelt), text_len = strlen(plan);
+    uint64_t *scan = lend(&scan_room, JAZHUPPE_SCAN_WORDS * sizeof *scan);
+    uint32_t *list = lend(&list_room, text_len * sizeof *list);
+    const uint8_t *text = lend_bytes(&text_room, plan, text_len), *rule = lend_rule(spelt);
+    jazhuppe_prepared p = jazhuppe_prepare(rule, length, 0);
+    jazhuppe_prepared o = jazhuppe_open(rule, length, 0, NO_CODES, scan, JAZHUPPE_SCAN_WORDS);
+    jazhuppe_answer a = jazhuppe_search(rule, length, 0, NO_CODES, text, text_len, list, text_len);
+    jazhuppe_span s = jazhuppe_show(rule, length, 0, text, text_len, 0);
+
+    about("%s is refused", spelt);
+    CHECK(p.number == number && p.place == place && p.positions == 0 && p.shortest == 0);
+    CHECK(o.number == number && o.place == place && o.positions == 0 && o.shortest == 0);
+    CHECK(a.number == number && a.place == place && a.count == 0 && a.windows == 0);
+    CHECK(s.from == text_len && s.to == text_len);
+    CHECK(untouched(&scan_room) && untouched(&list_room));
+}
 
 static void test_M12(void)
 {
-    uint64_t *scan = lend(&scan_room, JAZHUPPE_SCAN_WORDS * sizeof *scan);
-    uint32_t *list = lend(&list_room, sizeof *list);
-    const uint8_t *text = lend_bytes(&text_room, "a", 1), *rule = lend_rule("a?");
-    jazhuppe_prepared p = jazhuppe_prepare(rule, 2, 0);
-    jazhuppe_prepared o = jazhuppe_open(rule, 2, 0, NO_CODES, scan, JAZHUPPE_SCAN_WORDS);
-    jazhuppe_answer a = jazhuppe_search(rule, 2, 0, NO_CODES, text, 1, list, 1);
-    jazhuppe_span s = jazhuppe_show(rule, 2, 0, text, 1, 0);
+    hold_refused("a?", "a", JAZHUPPE_ADMITS_EMPTY, 2);
+}
 
-    CHECK(p.number == JAZHUPPE_ADMITS_EMPTY && p.place == 2 && p.positions == 0 && p.shortest == 0);
-    CHECK(o.number == JAZHUPPE_ADMITS_EMPTY && o.place == 2 && o.positions == 0 && o.shortest == 0);
-    CHECK(a.number == JAZHUPPE_ADMITS_EMPTY && a.place == 2 && a.count == 0 && a.windows == 0);
-    CHECK(s.from == 1 && s.to == 1);
-    CHECK(untouched(&scan_room) && untouched(&list_room));
+static void test_M7(void)
+{
+    hold_refused("{1,2}a", "xxa", JAZHUPPE_OUTER_GAP, 0);
+    hold_refused("{1,63}", "a", JAZHUPPE_OUTER_GAP, 0);
+    hold_refused("{1,63}a", "aa", JAZHUPPE_OUTER_GAP, 0);
 }
 
 /* A scan of JAZHUPPE_SCAN_WORDS opens; one of another length does not. */
@@ -900,13 +1044,15 @@ static void test_rule_most(void)
 
 static void test_positions_most(void)
 {
-    jazhuppe_prepared p = jazhuppe_prepare(lend_rule("{1,99}{1,99}{1,57}"), 18, 0);
+    jazhuppe_prepared p = jazhuppe_prepare(lend_rule("a{1,99}{1,99}{1,55}b"), 20, 0);
 
-    CHECK(p.number == 0 && p.positions == JAZHUPPE_POSITIONS_MOST && p.shortest == 3);
-    p = jazhuppe_prepare(lend_rule("{1,99}{1,99}{1,57}a"), 19, 0);
-    CHECK(p.number == JAZHUPPE_POSITIONS && p.place == 18);
-    p = jazhuppe_prepare(lend_rule("{1,63}a"), 7, 0);
-    CHECK(p.number == 0 && p.positions == 64 && p.shortest == 2);
+    CHECK(p.number == 0 && p.positions == JAZHUPPE_POSITIONS_MOST && p.shortest == 5);
+    p = jazhuppe_prepare(lend_rule("a{1,99}{1,99}{1,55}bc"), 21, 0);
+    CHECK(p.number == JAZHUPPE_POSITIONS && p.place == 20);
+    p = jazhuppe_prepare(lend_rule("{99,99}{99,99}{57,57}"), 21, 0);
+    CHECK(p.number == 0 && p.positions == JAZHUPPE_POSITIONS_MOST && p.shortest == JAZHUPPE_POSITIONS_MOST);
+    p = jazhuppe_prepare(lend_rule("a{1,62}b"), 8, 0);
+    CHECK(p.number == 0 && p.positions == 64 && p.shortest == 3);
 }
 
 static void test_empty_piece(void)
@@ -960,7 +1106,7 @@ static void test_fold(void)
 
 static void run_all(void)
 {
-    run("M1 to M8 and the lister's example: scan, search, show", test_rows);
+    run("M1 to M6, M8 and the lister's example: scan, search, show", test_rows);
     run("long rules: the top position in each word", test_top_in_each_word);
     run("long rules: blocks of optional positions over each border", test_blocks_over_borders);
     run("long rules: gaps over each border", test_gaps_over_borders);
@@ -984,12 +1130,17 @@ static void run_all(void)
     run("codes: one in each word of a long rule", test_codes_in_each_word);
     run("codes: a text of nothing else", test_codes_only);
     run("codes: what a rule comes to, and what is shown", test_codes_and_other_answers);
+    run("stored rules and their rewritings", test_rewritings);
+    run("rewritings as long as may be", test_rewriting_lengths);
+    run("rewritings of rules that were too long, and the fold flag", test_rewriting_old_answers);
+    run("M7: a gap of unequal bounds at the front", test_M7);
     run("M12: the empty string is admitted", test_M12);
     run("an empty piece reports no end", test_empty_piece);
     run("the fold flag with each of the 256 bytes", test_fold);
     run("JAZHUPPE_SCAN_WORDS", test_scan_words);
     run("JAZHUPPE_FEED_LIST", test_held_most);
     run("JAZHUPPE_FINISH_LIST", test_finish_list);
+    run("JAZHUPPE_REWRITE_BUFFER", test_rewrite_buffer);
     run("a search's list and a decoder's buffer", test_whole_lists);
     run("JAZHUPPE_RULE_MOST", test_rule_most);
     run("JAZHUPPE_POSITIONS_MOST", test_positions_most);

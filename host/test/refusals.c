@@ -11,10 +11,11 @@ typedef struct {
     uint32_t fold, number, place;
 } refused_rule;
 
-/* The requirement's rows 1 to 8, its edges, and how docs/DECISIONS.md reads its open corners. */
-/* 255 positions, in 18 bytes. */
+/* 255 positions, in 18 bytes, which begin and end with a gap of unequal bounds; and in 20 that do not. */
 #define FULL "{1,99}{1,99}{1,57}"
+#define FULL_INSIDE "a{1,99}{1,99}{1,55}b"
 
+/* The requirement's rows 1 to 8 and 16, its edges, and how docs/DECISIONS.md reads its open corners. */
 static const refused_rule refused_rules[] = {
     {"", 0, 1, 0},
     {"[a", 0, 3, 0}, {"[", 0, 3, 0}, {"x[]", 0, 3, 1}, {"[^]", 0, 3, 0}, {"[]a]", 0, 3, 0}, {"[b-a]", 0, 3, 0},
@@ -30,14 +31,27 @@ static const refused_rule refused_rules[] = {
     {"[a]]", 0, 6, 3},
     {"{1,99}{1,99}{1,58}", 0, 7, 12}, {"{1,99}{1,99}{1,99}", 0, 7, 12}, {FULL "a", 0, 7, 18}, {"{1,99}{1,99}{1,99}?", 0, 7, 12},
     {FULL "a??", 0, 7, 18}, {"a{99,99}{99,99}{57,57}", 0, 7, 15}, {FULL "\\.", 0, 7, 18}, {FULL "[a]", 0, 7, 18},
-    {FULL "[b-a]", 0, 3, 18}, {FULL "{2,1}", 0, 4, 18}, {FULL "]", 0, 6, 18},
+    {FULL "[b-a]", 0, 3, 18}, {FULL "{2,1}", 0, 4, 18}, {FULL "]", 0, 6, 18}, {FULL_INSIDE "c", 0, 7, 20},
     {"a?", 0, 8, 2}, {"a*b?", 0, 8, 4}, {"{0,63}", 0, 8, 6}, {"{0,99}{0,99}{0,57}", 0, 8, 18}, {"{0,1}.*", 0, 8, 7},
+    {".*{0,1}", 0, 8, 7},
+    /* Front, back, both, alone; the first such gap, and no other than the first or last element. */
+    {"{1,2}a", 0, 16, 0}, {"a{1,2}", 0, 16, 1}, {"{1,2}a{1,2}", 1, 16, 0}, {"{1,63}", 0, 16, 0}, {"{1,63}a", 0, 16, 0},
+    {"{1,64}", 0, 16, 0}, {"{1,99}", 0, 16, 0}, {"{98,99}", 0, 16, 0}, {FULL, 0, 16, 0}, {"{1,99}{1,99}{1,56}a", 0, 16, 0},
+    {"{0,1}a", 0, 16, 0}, {"a{0,1}", 0, 16, 1}, {"{01,02}", 0, 16, 0}, {"{1,02}", 0, 16, 0}, {"{00,1}a", 0, 16, 0},
+    {"{2,2}{0,3}", 0, 16, 5}, {"{0,3}{2,2}", 0, 16, 0}, {"{2,2}{0,3}{1,2}", 0, 16, 10}, {"{2,2}a{0,3}", 0, 16, 6},
+    {"a?{1,2}", 0, 16, 2}, {"a+{0,9}", 1, 16, 2}, {"{1,63}[a]", 0, 16, 0}, {"[a]{1,2}", 0, 16, 3}, {"\\\\{1,2}", 0, 16, 2},
+    {"\\{{1,2}", 0, 16, 2}, {"[{1,2}]{0,1}", 0, 16, 7}, {"[\\]]{1,9}", 0, 16, 4}, {"{1,2}\\{1,2\\}", 0, 16, 0},
+    /* A fault of 3 to 7, further right too, and 8 go before it. */
+    {"{1,2}[b-a]", 0, 3, 5}, {"{1,2}a{2,1}", 0, 4, 6}, {"{1,2}a??", 0, 5, 7}, {"{1,2}]", 0, 6, 5},
+    {"{0,2}a?{0,2}", 0, 8, 12},
 };
 
 /* Rules that pass, beside those. */
 static const char *const accepted_rules[] = {
-    "^", "-", ",", "1", "&amp;", "[^^]", "[a^]", "[\\^a]", "[\\--a]", "[+-\\-]", "[.?+*{}[]", "[\\]]", "{01,02}",
-    "{1,63}", "{1,63}a", "{1,64}", "{1,99}", "{1,63}[a]", "a{63,63}", FULL, "{1,99}{1,99}{1,56}a", "\\.\\[\\]\\{\\}\\?\\+\\*\\\\\\^\\-", "a?b", "{0,1}a", "\n",
+    "^", "-", ",", "1", "&amp;", "[^^]", "[a^]", "[\\^a]", "[\\--a]", "[+-\\-]", "[.?+*{}[]", "[\\]]",
+    "a{01,02}b", "a{1,63}b", "a{1,64}b", "a{1,99}b", "{63,63}", "a{63,63}", "{01,1}", "{2,2}{0,3}a", "a{0,3}{2,2}",
+    "{1,1}{0,1}{1,1}", FULL_INSIDE, "{99,99}{99,99}{57,57}", "\\.\\[\\]\\{\\}\\?\\+\\*\\\\\\^\\-", "\\{1,2\\}", "[{1,2}]",
+    "[{0,1}]a[{0,1}]+", "a?b", ".?.a", "\n",
 };
 
 static jazhuppe_answer refusal(uint32_t number, uint32_t place)
@@ -57,8 +71,29 @@ static bool same_prepared(jazhuppe_prepared p, uint32_t number, uint32_t place)
     return p.number == number && p.place == place && p.positions == 0 && p.shortest == 0;
 }
 
-/* Through prepare, open, search and show; open and search are lent too little besides, or a code without a set, which come
- * later. */
+static bool same_text(jazhuppe_text t, uint32_t number, uint32_t place)
+{
+    return t.number == number && t.place == place && t.length == 0;
+}
+
+/* A stored rule is judged by 1 to 8 alone, and after 9. */
+static void rewriting_refuses(const uint8_t *bytes, size_t length, uint32_t fold, uint32_t number, uint32_t place)
+{
+    const uint8_t *rule = lend_bytes(&rule_room, bytes, length);
+    uint8_t *out = lend(&list_room, JAZHUPPE_REWRITE_BUFFER);
+    jazhuppe_text t = jazhuppe_rewrite(rule, length, fold, out, JAZHUPPE_REWRITE_BUFFER - 1);
+
+    CHECK(same_text(t, JAZHUPPE_TOO_SHORT, 0) && untouched(&list_room));
+    t = jazhuppe_rewrite(rule, length, fold, out, JAZHUPPE_REWRITE_BUFFER);
+    if (number == JAZHUPPE_OUTER_GAP)
+        CHECK(t.number == 0 && t.place == 0 && t.length > 0);
+    else
+        CHECK(same_text(t, number, place));
+    CHECK(untouched_past(&list_room, t.length) && untouched(&rule_room));
+}
+
+/* Through prepare, open, search, show and rewrite; open and search are lent too little besides, or a code without a set,
+ * which come later. */
 static void refuses(const uint8_t *bytes, size_t length, uint32_t fold, uint32_t number, uint32_t place)
 {
     const uint8_t *rule = lend_bytes(&rule_room, bytes, length), *text = lend_bytes(&text_room, "abc", 3);
@@ -75,6 +110,7 @@ static void refuses(const uint8_t *bytes, size_t length, uint32_t fold, uint32_t
     CHECK(same_answer(jazhuppe_search(rule, length, fold, text, 1, NULL, 0, text, 3, starts, 3), refusal(number, place)));
     CHECK(shown.from == 3 && shown.to == 3);
     CHECK(untouched(&rule_room) && untouched(&text_room) && untouched(&scan_room) && untouched(&list_room));
+    rewriting_refuses(bytes, length, fold, number, place);
 }
 
 static void test_rules(void)
@@ -258,9 +294,11 @@ static void test_codes_alone(void)
     } rows[] = {
         {"A", 0, 15}, {"A", 1, 0}, {"[A]", 0, 15}, {"[A-A]", 1, 0}, {"a", 0, 0}, {"[?A]", 0, 15}, {"[?A]", 1, 0},
         {"[?Ax]", 0, 0}, {"\\?", 0, 15}, {"\\?", 1, 15}, {"x\\?", 0, 15}, {"\\?x", 1, 15}, {"x\\??", 0, 15}, {"x\\?*", 1, 15},
-        {"x[?]+", 0, 15}, {"xA?", 0, 15}, {"xA?", 1, 0}, {"[^?]", 0, 0}, {"[^?A]", 0, 0}, {".", 0, 0}, {"{1,9}", 0, 0},
-        {"[^\x01->@C-\xFF]", 0, 0}, {"[^\x01->@B-\xFF]", 0, 15}, {"{1,99}{1,99}{1,56}A", 0, 15}, {"{1,99}{1,99}{1,56}A", 1, 0},
-        {"{1,63}A", 0, 15}, {"{1,62}A", 0, 15}, {"A{1,99}{1,99}{1,56}", 0, 15},
+        {"x[?]+", 0, 15}, {"xA?", 0, 15}, {"xA?", 1, 0}, {"[^?]", 0, 0}, {"[^?A]", 0, 0}, {".", 0, 0}, {"{9,9}", 0, 0},
+        {"[^\x01->@C-\xFF]", 0, 0}, {"[^\x01->@B-\xFF]", 0, 15}, {"a{1,99}{1,99}{1,55}A", 0, 15},
+        {"a{1,99}{1,99}{1,55}A", 1, 0}, {"a{1,62}A", 0, 15}, {"a{1,61}A", 0, 15}, {"A{1,99}{1,99}{1,55}b", 0, 15},
+        /* 16 goes before. */
+        {"{1,9}A", 0, 16}, {"{1,9}", 0, 16},
     };
     code_list list = no_codes();
 
@@ -413,6 +451,17 @@ static void test_null(void)
     CHECK(untouched(&scan_room) && untouched(&list_room));
 }
 
+static void test_null_rewriting(void)
+{
+    uint8_t *out = lend(&list_room, JAZHUPPE_REWRITE_BUFFER);
+    const uint8_t *rule = lend_bytes(&rule_room, "a", 1);
+
+    CHECK(same_text(jazhuppe_rewrite(NULL, 0, 0, NULL, 0), JAZHUPPE_TOO_SHORT, 0));
+    CHECK(same_text(jazhuppe_rewrite(rule, 1, 0, NULL, 0), JAZHUPPE_TOO_SHORT, 0));
+    CHECK(same_text(jazhuppe_rewrite(NULL, 0, 0, out, JAZHUPPE_REWRITE_BUFFER), JAZHUPPE_RULE_EMPTY, 0));
+    CHECK(untouched(&list_room) && untouched(&rule_room));
+}
+
 static void test_show(void)
 {
     const uint8_t *rule = lend_bytes(&rule_room, "a", 1), *text = lend_bytes(&text_room, "ba", 2);
@@ -428,7 +477,7 @@ static void test_show(void)
 
 static void run_all(void)
 {
-    run("1, 3 to 8 of a rule: number and place, by every call that takes one", test_rules);
+    run("1, 3 to 8 and 16 of a rule: number and place, by every call that takes one", test_rules);
     run("2 of a rule, before any other fault", test_long_rules);
     run("3: a class left with no byte, and the fold flag", test_classes_left_empty);
     run("rules that pass", test_accepted_rules);
@@ -444,6 +493,7 @@ static void run_all(void)
     run("12: a finished scan", test_finished);
     run("a scan call checks 11, 12, 10, 9", test_order_of_scan_calls);
     run("NULL with length 0", test_null);
+    run("NULL with length 0, rewriting", test_null_rewriting);
     run("show gives no number", test_show);
 }
 

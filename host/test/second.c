@@ -204,7 +204,7 @@ static size_t shortest(const second_rule *rule)
     return m;
 }
 
-second_rule second_read(const uint8_t *rule, size_t rule_len, uint32_t fold)
+second_rule second_read_stored(const uint8_t *rule, size_t rule_len, uint32_t fold)
 {
     reader r = {rule, rule_len, 0, fold != 0};
     second_rule read;
@@ -223,6 +223,84 @@ second_rule second_read(const uint8_t *rule, size_t rule_len, uint32_t fold)
         }
     }
     return read;
+}
+
+/* ---- outer gaps */
+
+/* An element of a rule's text: its spelling, and its bounds, which are unequal in some gaps alone. */
+typedef struct {
+    size_t from, to;
+    int least, most;
+} element;
+
+static element element_at(const uint8_t *text, size_t length, size_t at)
+{
+    reader r = {text, length, at, false};
+    bool admits[256];
+    element e;
+
+    e.from = at;
+    read_kind(&r, admits, &e.least, &e.most);
+    e.to = r.at + (more(&r) && among(text[r.at], "?+*"));
+    return e;
+}
+
+static element last_element(const uint8_t *text, size_t length)
+{
+    element e = element_at(text, length, 0);
+
+    while (e.to < length)
+        e = element_at(text, length, e.to);
+    return e;
+}
+
+static bool unequal(element e)
+{
+    return e.least < e.most;
+}
+
+second_rule second_read(const uint8_t *rule, size_t rule_len, uint32_t fold)
+{
+    second_rule read = second_read_stored(rule, rule_len, fold);
+    element first, last;
+
+    if (read.number != 0)
+        return read;
+    first = element_at(rule, rule_len, 0);
+    last = last_element(rule, rule_len);
+    if (unequal(first) || unequal(last)) {
+        read.number = JAZHUPPE_OUTER_GAP;
+        read.place = (uint32_t)(unequal(first) ? first.from : last.from);
+    }
+    return read;
+}
+
+/* The text anew: what stands before the gap, the dots, what stands after it. */
+static void turn_into_dots(second_rewriting *w, element gap)
+{
+    uint8_t before[SECOND_STORED_MOST];
+    size_t dots = (size_t)gap.least, after = w->length - gap.to;
+
+    memcpy(before, w->text, w->length);
+    w->length = gap.from + dots + after;
+    if (w->length > sizeof w->text)
+        abort();
+    memset(w->text + gap.from, '.', dots);
+    memcpy(w->text + gap.from + dots, before + gap.to, after);
+}
+
+second_rewriting second_rewritten(const uint8_t *rule, size_t rule_len)
+{
+    second_rewriting w;
+
+    memset(&w, 0, sizeof w);
+    memcpy(w.text, rule, rule_len);
+    w.length = rule_len;
+    for (; unequal(element_at(w.text, w.length, 0)); w.front++)
+        turn_into_dots(&w, element_at(w.text, w.length, 0));
+    for (; unequal(last_element(w.text, w.length)); w.back++)
+        turn_into_dots(&w, last_element(w.text, w.length));
+    return w;
 }
 
 /* ---- codes */
@@ -537,6 +615,21 @@ static size_t ends_over(const second_rule *rule, const uint8_t *text, size_t len
     return count;
 }
 
+size_t second_ends(const second_rule *rule, const uint8_t *text, size_t text_len, uint32_t *ends)
+{
+    return ends_over(rule, text, text_len, 0, ends);
+}
+
+size_t second_starts(const second_rule *rule, const uint8_t *text, size_t text_len, uint32_t *starts)
+{
+    size_t count = 0;
+
+    for (size_t start = 0; start < text_len; start++)
+        if (earliest_end(rule, text, text_len, start) != 0)
+            starts[count++] = (uint32_t)start;
+    return count;
+}
+
 /* ---- windows */
 
 /* Whether the bytes begin some string that the rule admits: some first positions can fill them, as some byte fits every
@@ -601,6 +694,29 @@ jazhuppe_prepared second_prepare(const uint8_t *rule, size_t rule_len, uint32_t 
     second_rule read = second_read(rule, rule_len, fold);
 
     return prepared(&read);
+}
+
+static jazhuppe_text rewriting(uint32_t number, uint32_t place, size_t length)
+{
+    jazhuppe_text t = {number, place, (uint32_t)length};
+
+    return t;
+}
+
+jazhuppe_text second_rewrite(const uint8_t *rule, size_t rule_len, uint32_t fold, uint8_t *out, size_t out_len)
+{
+    second_rule read = second_read_stored(rule, rule_len, fold);
+    second_rewriting w;
+
+    if (out_len < JAZHUPPE_REWRITE_BUFFER)
+        return rewriting(JAZHUPPE_TOO_SHORT, 0, 0);
+    if (read.number != 0)
+        return rewriting(read.number, read.place, 0);
+    w = second_rewritten(rule, rule_len);
+    if (w.length > JAZHUPPE_RULE_MOST)
+        return rewriting(JAZHUPPE_RULE_LONG, JAZHUPPE_RULE_MOST, 0);
+    memcpy(out, w.text, w.length);
+    return rewriting(0, 0, w.length);
 }
 
 jazhuppe_prepared second_open(const uint8_t *rule, size_t rule_len, uint32_t fold, const uint8_t *codes,
@@ -677,7 +793,6 @@ jazhuppe_answer second_search(const uint8_t *rule, size_t rule_len, uint32_t fol
                               size_t text_len, uint32_t *starts, size_t starts_len)
 {
     second_rule read = second_read(rule, rule_len, fold);
-    size_t count = 0;
     uint32_t number = whole_refusal(text_len, starts_len);
 
     second_read_codes(&read, codes, codes_len, sets, sets_len);
@@ -685,10 +800,7 @@ jazhuppe_answer second_search(const uint8_t *rule, size_t rule_len, uint32_t fol
         return answer(read.number, read.place, 0, 0);
     if (number != 0)
         return answer(number, 0, 0, 0);
-    for (size_t start = 0; start < text_len; start++)
-        if (earliest_end(&read, text, text_len, start) != 0)
-            starts[count++] = (uint32_t)start;
-    return answer(0, 0, count, windows(&read, text, text_len));
+    return answer(0, 0, second_starts(&read, text, text_len, starts), windows(&read, text, text_len));
 }
 
 jazhuppe_span second_show(const uint8_t *rule, size_t rule_len, uint32_t fold, const uint8_t *text, size_t text_len,

@@ -1,5 +1,6 @@
 /* second.h: a second implementation, straight from the definitions: occurrences by cutting into shares, references by
- * spelling, codes by what two sets share, a scan that keeps all bytes taken. No masks, no states. For small plans. */
+ * spelling, codes by what two sets share, a scan that keeps all bytes taken, a rewriting that reads the whole text anew
+ * before each step. No masks, no states. For small plans. */
 #ifndef SECOND_H
 #define SECOND_H
 
@@ -25,6 +26,15 @@ typedef struct {
 
 enum { SECOND_PLAN_MOST = 2048 };
 
+/* A stored rule between the steps of its rewriting: it may be over the limit then, by two gaps that became dots. */
+enum { SECOND_STORED_MOST = JAZHUPPE_RULE_MOST + 2 * 99 };
+
+typedef struct {
+    uint8_t text[SECOND_STORED_MOST];
+    size_t length;
+    unsigned front, back; /* the steps that were taken */
+} second_rewriting;
+
 /* The plain scan: the rule, the bytes taken, and whether it has finished. */
 typedef struct {
     second_rule rule;
@@ -34,6 +44,12 @@ typedef struct {
 } second_scan;
 
 second_rule second_read(const uint8_t *rule, size_t rule_len, uint32_t fold);
+
+/* The same before outer gaps were retired: a stored rule, by 1 to 8 alone. */
+second_rule second_read_stored(const uint8_t *rule, size_t rule_len, uint32_t fold);
+
+/* All steps on a rule that 1 to 8 do not refuse. */
+second_rewriting second_rewritten(const uint8_t *rule, size_t rule_len);
 
 /* Reads codes into a rule that is not refused; or it is refused then. */
 void second_read_codes(second_rule *rule, const uint8_t *codes, size_t codes_len, const uint8_t *sets, size_t sets_len);
@@ -53,7 +69,12 @@ size_t second_text(const second_scan *scan, uint8_t *out);
 /* For each i up to the count of positions: whether some tail of the text can be cut into shares for the first i. */
 void second_filled(const second_rule *rule, const uint8_t *text, size_t text_len, bool *filled);
 
+/* Of any rule; the lists have room for the text's length. */
+size_t second_ends(const second_rule *rule, const uint8_t *text, size_t text_len, uint32_t *ends);
+size_t second_starts(const second_rule *rule, const uint8_t *text, size_t text_len, uint32_t *starts);
+
 jazhuppe_prepared second_prepare(const uint8_t *rule, size_t rule_len, uint32_t fold);
+jazhuppe_text second_rewrite(const uint8_t *rule, size_t rule_len, uint32_t fold, uint8_t *out, size_t out_len);
 jazhuppe_prepared second_open(const uint8_t *rule, size_t rule_len, uint32_t fold, const uint8_t *codes,
                               size_t codes_len, const uint8_t *sets, size_t sets_len, second_scan *scan);
 jazhuppe_answer second_feed(second_scan *scan, const uint8_t *piece, size_t piece_len, uint32_t *ends, size_t ends_len);

@@ -2,6 +2,7 @@
 use Prim.Native.Nat.{ℕ}
 use Rattle.answers.specs.declared.Answer.{Answer}
 use Rattle.answers.specs.declared.Opened.{Opened}
+use Rattle.answers.specs.declared.Text.{Text}
 
 -- "Every refusal has zero counts beside its number and place, place 0 where none is given"
 abbrev pub refusing : (number place : ℕ) → Answer
@@ -16,3 +17,9 @@ refusingRule n p = record { number = n; place = p; positions = 0; shortest = 0 }
 
 abbrev pub acceptingRule : (positions shortest : ℕ) → Opened
 acceptingRule n m = record { number = 0; place = 0; positions = n; shortest = m }
+
+abbrev pub refusingText : (number place : ℕ) → Text
+refusingText n p = record { number = n; place = p; length = 0 }
+
+abbrev pub writtenText : (length : ℕ) → Text
+writtenText n = record { number = 0; place = 0; length = n }

@@ -1,7 +1,7 @@
 // What the calls answer a host, and the numbers of their refusals (document 01, "Numbered answers"). `model` has
 // the same numbers, and the header for a host.
 ghost use mathlib.Core.Path.{_≡_};
-ghost use Rattle.answers.specs.Answers.{refusing, counting, refusingRule, acceptingRule};
+ghost use Rattle.answers.specs.Answers.{refusing, counting, refusingRule, acceptingRule, refusingText, writtenText};
 
 // "rule of length 0"
 pub const RULE_EMPTY: u32 = 1;
@@ -43,6 +43,9 @@ pub const ALREADY_FINISHED: u32 = 12;
 // code, or a position holds codes alone"
 pub const CODES_FAULT: u32 = 15;
 
+// "a rule's first or last element is a gap with a < b"
+pub const OUTER_GAP: u32 = 16;
+
 // What a call on a scan or on a whole text answers. `windows` is a search's, and 0 in any other answer.
 #[repr(C)]
 pub struct Answer {
@@ -59,6 +62,14 @@ pub struct Opened {
     pub place: u32,
     pub positions: u32,
     pub shortest: u32,
+}
+
+// What a call that writes a rule's text answers.
+#[repr(C)]
+pub struct Text {
+    pub number: u32,
+    pub place: u32,
+    pub length: u32,
 }
 
 // A part of a text, as its two places.
@@ -113,5 +124,27 @@ pub fn accepted_rule(positions: u32, shortest: u32) -> Opened
         place: 0,
         positions: positions,
         shortest: shortest,
+    }
+}
+
+// No text is written.
+pub fn refused_text(number: u32, place: u32) -> Text
+    ensures { λ r. ⌜ r ≡ refusingText number place ⌝ }
+{
+    Text {
+        number: number,
+        place: place,
+        length: 0,
+    }
+}
+
+// A text of so many bytes is.
+pub fn written(length: u32) -> Text
+    ensures { λ r. ⌜ r ≡ writtenText length ⌝ }
+{
+    Text {
+        number: 0,
+        place: 0,
+        length: length,
     }
 }

@@ -1,12 +1,11 @@
--- The decoder of a whole text: the tail copied as it came, the text so made, and the answers. On plain values. Assumes nothing.
-use mathlib.Core.Path.{_≡_, refl, sym, ap, _∙_}
-use mathlib.Core.List.{List, [], _++_}
+-- The decoder of a whole text: the text made of what is let out and the tail copied as it came, and the answers. On plain values. Assumes nothing.
+use mathlib.Core.Path.{_≡_, sym, ap, _∙_}
+use mathlib.Core.List.{List, _++_}
 use Prim.Native.Nat.{ℕ, _+_, _≤_, _<_}
 use native.Mathlib.Nat.{zero-add}
-use native.Mathlib.Numerals.{add-one}
 use native.Mathlib.Omega.{arith}
-use lib.ListN.{length, drop, getD, set, length-append, length-drop, length-set, drop-of-length-le}
-use lib.Seq.{sets, drop-cons}
+use lib.ListN.{length, drop, length-append, length-drop}
+use lib.Seq.{sets}
 use borrow.Author.Tests.{lt-ltb, le-ltb}
 use Rattle.model.specs.RefusalNumbers.{tooShort, tooMuch}
 use Rattle.model.specs.References.{formLimit, heldTail, letOut}
@@ -17,37 +16,8 @@ use Rattle.answers.specs.declared.Answer.{Answer}
 use Rattle.answers.specs.Answers.{refusing, counting}
 use Rattle.piece_decoder.specs.declared.TokensDecoded.{TokensDecoded}
 use Rattle.piece_decoder.specs.Chunks.{TokensDecodedIs}
-use Rattle.decoder.specs.Decoder.{decoded, TailCopied, DecodedAll, decodeAnswer, decodeBuffer, DecodeIs}
-
--- ---- `copy_tail`
-
-pub record TailInvariant (raw : List ℕ) (from : ℕ) (out₀ : List ℕ) (at : ℕ) (out : List ℕ) (i end : ℕ) : Type 0 where
-  pub within : i ≤ length raw
-  pub level : end + from ≡ at + i
-  pub long : length out ≡ length out₀
-  pub list : sets out end (drop i raw) ≡ sets out₀ at (drop from raw)
-
-module _ (raw : List ℕ) (from : ℕ) (out₀ : List ℕ) (at : ℕ) (h : from ≤ length raw) where
-  pub tail-begun : TailInvariant raw from out₀ at out₀ from at
-  tail-begun = record { within = h; level = refl; long = refl; list = refl }
-
-  module _ {out : List ℕ} {i end : ℕ} (g : TailInvariant raw from out₀ at out i end) where
-    pub tail-turn : i < length raw → TailInvariant raw from out₀ at (set out end (getD raw i 0)) (i + 1) (end + 1)
-    tail-turn l =
-        let v = g .level in
-        record {
-          within = omega arith;
-          level = omega arith;
-          long = length-set out end (getD raw i 0) ∙ g .long;
-          list = rw (add-one i, add-one end) (sym (ap (sets out end) (drop-cons raw i 0 l)) ∙ g .list);
-        }
-
-    pub tail-over : length raw ≤ i → TailCopied raw from out₀ at end out
-    tail-over stop =
-        let n : drop i raw ≡ [] = drop-of-length-le raw stop in
-        let v = g .level in
-        let w = g .within in
-        record { count = omega (arith, length-drop from raw); list = rw n at (g .list) }
+use Rattle.text_writer.specs.Writing.{TailCopied}
+use Rattle.decoder.specs.Decoder.{decoded, DecodedAll, decodeAnswer, decodeBuffer, DecodeIs}
 
 -- ---- `decode_all`
 

@@ -2,10 +2,9 @@
 use mathlib.Core.Path.{_≡_}
 use mathlib.Core.Bool.{cond}
 use mathlib.Core.List.{List}
-use Prim.Native.Nat.{ℕ, _+_, _≤_}
+use Prim.Native.Nat.{ℕ, _≤_}
 use lib.Dec.{eqb}
-use lib.ListN.{length, drop}
-use lib.Seq.{sets}
+use lib.ListN.{length}
 use Rattle.model.specs.References.{formLimit, decode}
 use Rattle.model.specs.NumberedAnswers.{wholeRefusal, overwrite}
 use Rattle.answers.specs.declared.Answer.{Answer}
@@ -14,11 +13,6 @@ use Rattle.answers.specs.Answers.{refusing, counting}
 -- What some raw bytes decode to: the model's, shut.
 unfoldable pub decoded : List ℕ → List ℕ
 decoded raw = decode formLimit raw
-
--- `copy_tail`: where the bytes from `from` on end, and the buffer
-pub record TailCopied (raw : List ℕ) (from : ℕ) (out : List ℕ) (at r : ℕ) (out′ : List ℕ) : Type 0 where
-  pub count : r ≡ at + length (drop from raw)
-  pub list : out′ ≡ sets out at (drop from raw)
 
 -- `decode_all`: how many bytes there are, and the buffer
 pub record DecodedAll (raw out : List ℕ) (r : ℕ) (out′ : List ℕ) : Type 0 where

@@ -1,24 +1,8 @@
 // The decoder of a whole text: the references of document 01, once, into a lent buffer.
-ghost use Prim.Native.Nat.{_+_, _≤_};
+ghost use Prim.Native.Nat.{_≤_};
 ghost use lib.ListN.{length};
-ghost use Rattle.decoder.specs.Decoder.{TailCopied, DecodedAll, DecodeIs};
+ghost use Rattle.decoder.specs.Decoder.{DecodedAll, DecodeIs};
 use answers::Answer;
-
-// Copies the raw bytes from `from` on as they came, to `at` on, and returns where they end.
-fn copy_tail(raw: &[u8], from: usize, out: &mut [u8], at: usize) -> usize
-    requires { ⌜ from ≤ length (now raw) ⌝ }
-    requires { ⌜ at + length (now raw) ≤ length (now out) + from ⌝ }
-    ensures { λ r. ⌜ TailCopied (now (raw .entry)) from (now (out .entry)) at r (now (out .exit)) ⌝ }
-{
-    let mut i = from;
-    let mut end = at;
-    while i < raw.len() {
-        out[end] = raw[i];
-        i += 1;
-        end += 1;
-    }
-    end
-}
 
 // Decodes all of `raw` to the front of `out`, and returns how many bytes it gives: what it lets out, and
 // then what a piece would hold back, since nothing follows.
@@ -27,7 +11,7 @@ fn decode_all(raw: &[u8], out: &mut [u8]) -> usize
     ensures { λ r. ⌜ DecodedAll (now (raw .entry)) (now (out .entry)) r (now (out .exit)) ⌝ }
 {
     let t = piece_decoder::decode_tokens(raw, out);
-    copy_tail(raw, t.read, out, t.written)
+    text_writer::copy_tail(raw, t.read, out, t.written)
 }
 
 // Decodes a whole plan into the lent buffer: refused by 10 if it is too long, by 9 if the buffer is

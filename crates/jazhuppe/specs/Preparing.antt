@@ -1,4 +1,4 @@
--- What preparing a rule answers the C host: rows 1 to 8, or the counts. Assumes nothing.
+-- What preparing a rule answers the C host: rows 1 to 8 and 16, or the counts. Assumes nothing.
 use mathlib.Core.Path.{_≡_}
 use mathlib.Core.List.{List}
 use Prim.Native.Nat.{ℕ}

@@ -3,11 +3,13 @@ ghost use Rattle.decoder.specs.Decoder.{DecodeIs};
 ghost use Rattle.scan_open.specs.Opening.{OpenIs};
 ghost use Rattle.scan.specs.Calls.{FeedIs, FinishIs};
 ghost use Rattle.jazhuppe.specs.Preparing.{PrepareIs};
+ghost use Rattle.rule_rewriter.specs.Rewriting.{RewriteIs};
 ghost use Rattle.text_search.specs.Searching.{SearchIs};
 ghost use Rattle.text_show.specs.Showing.{ShownIs};
 use answers::Answer;
 use answers::Opened;
 use answers::Span;
+use answers::Text;
 
 // Prepares a rule: its refusal, or its counts.
 #[no_mangle]
@@ -21,6 +23,14 @@ pub extern "C" fn jazhuppe_prepare(rule: &[u8], fold: u32) -> Opened
         positions: p.positions,
         shortest: p.shortest,
     }
+}
+
+// Rewrites a stored rule without outer gaps of unequal bounds.
+#[no_mangle]
+pub extern "C" fn jazhuppe_rewrite(rule: &[u8], fold: u32, out: &mut [u8]) -> Text
+    ensures { λ r. ⌜ RewriteIs fold (now (rule .entry)) (now (out .entry)) r (now (out .exit)) ⌝ }
+{
+    rule_rewriter::rewrite(rule, fold, out)
 }
 
 // Opens a scan for a rule with codes.

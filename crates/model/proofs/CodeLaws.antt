@@ -8,16 +8,16 @@ use Prim.Native.Nat.{ℕ, zero, suc, _+_, _≤_, _<_}
 use native.Mathlib.Omega.{arith}
 use lib.Dec.{T, eqb, eqb→eq, eqb-refl, ltb→lt}
 use lib.ListN.{length, replicate}
-use Rattle.model.specs.RefusalNumbers.{ruleEmpty, admitsEmpty, codesFault}
+use Rattle.model.specs.RefusalNumbers.{codesFault}
 use Rattle.model.specs.Occurrence.{Position, all, oneIf}
-use Rattle.model.specs.RuleText.{ruleLimit, positionLimit, oneOf, isByte, someBelow, Element, positions}
+use Rattle.model.specs.RuleText.{oneOf, isByte, someBelow, Element, positions}
 use Rattle.model.specs.NumberedAnswers.{Parsed, refused, accepted, parse, positionsBy, rulePositions}
 use Rattle.model.specs.WindowSearch.{EachSet, Inhabited}
 use Rattle.model.specs.Codes.{share, inSet, codesAlone, codesRefused, orCodes, parseWith, smudged}
 use Rattle.model.proofs.Truth.{and-intro, and-left, and-right, or-cases, or-left, or-right, T-to, T-true, T-false, same-test, or-false-left, or-false-right}
 use Rattle.model.proofs.Below.{some-into, some-out}
 use Rattle.model.proofs.Accepted.{rule-ok}
-use Rattle.model.proofs.Refusals.{refusal-row}
+use Rattle.model.proofs.Refusals.{RuleNumber, rule-refusal}
 use Rattle.model.proofs.Moves.{OfBytes, rule-sets}
 use Rattle.model.proofs.Fitting.{fitting-none}
 
@@ -153,18 +153,18 @@ module _ (fold : Bool) (rule : List ℕ) (bytes : T (all isByte rule)) where
 pub no-codes-positions : (fold : Bool) (rule : List ℕ) → smudged fold rule [] [] ≡ rulePositions fold rule
 no-codes-positions fold rule = fitting-none (rulePositions fold rule)
 
--- ---- a refusal of a rule with codes is one of rows 1 to 8, or 15 at place 0
+-- ---- a refusal of a rule with codes is the rule's, or 15 at place 0
 
-pub coded-refusal : (fold : Bool) (rule codes sets : List ℕ) (n p : ℕ) → parseWith fold rule codes sets ≡ refused n p → ((ruleEmpty ≤ n) × (n ≤ admitsEmpty)) ⊎ ((n ≡ codesFault) × (p ≡ 0))
+pub coded-refusal : (fold : Bool) (rule codes sets : List ℕ) (n p : ℕ) → parseWith fold rule codes sets ≡ refused n p → RuleNumber n ⊎ ((n ≡ codesFault) × (p ≡ 0))
 coded-refusal fold rule codes sets n p e = go (parse fold rule) refl e
   where
     clash : {A : Type 0} {es : List Element} {n p : ℕ} → accepted es ≡ refused n p → A
     clash q = let y : _≡_ {A = ℕ} 0 1 = cc in absurd (omega arith)
 
-    by : (es : List Element) (b : Bool) → cond b (refused codesFault 0) (accepted es) ≡ refused n p → ((ruleEmpty ≤ n) × (n ≤ admitsEmpty)) ⊎ ((n ≡ codesFault) × (p ≡ 0))
+    by : (es : List Element) (b : Bool) → cond b (refused codesFault 0) (accepted es) ≡ refused n p → RuleNumber n ⊎ ((n ≡ codesFault) × (p ≡ 0))
     by es true q = inr (cc, cc)
     by es false q = clash q
 
-    go : (x : Parsed) → parse fold rule ≡ x → orCodes fold codes sets x ≡ refused n p → ((ruleEmpty ≤ n) × (n ≤ admitsEmpty)) ⊎ ((n ≡ codesFault) × (p ≡ 0))
-    go (refused m q) r e = inl (refusal-row positionLimit fold ruleLimit rule n p (r ∙ e))
+    go : (x : Parsed) → parse fold rule ≡ x → orCodes fold codes sets x ≡ refused n p → RuleNumber n ⊎ ((n ≡ codesFault) × (p ≡ 0))
+    go (refused m q) r e = inl (rule-refusal fold rule n p (r ∙ e))
     go (accepted es) r e = by es (codesRefused codes sets (positions fold es)) e

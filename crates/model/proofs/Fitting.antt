@@ -8,7 +8,7 @@ use Prim.Native.Nat.{ℕ, zero, suc, _+_, _*_, _<_}
 use native.Mathlib.Nat.{le-of-suc-le-suc, not-suc-le-zero, add-comm}
 use native.Mathlib.Omega.{arith}
 use lib.Dec.{T, eqb, eqb→eq, eqb-refl, ltb→lt}
-use lib.ListN.{length, take, drop, getD}
+use lib.ListN.{length, take, drop, getD, replicate}
 use lib.Seq.{drop-drop}
 use Rattle.model.specs.Occurrence.{Position, all, Share, one, empty, longer, Occurs, done, next, shortest, oneIf, isShare}
 use Rattle.model.specs.RuleText.{oneOf, isByte, Element, positions, positionLimit}
@@ -60,6 +60,10 @@ fitting-length ks (p ∷ ps) = ap suc (fitting-length ks ps)
 pub fitting-shortest : (ks : List Code) (ps : List Position) → shortest (fitting ks ps) ≡ shortest ps
 fitting-shortest ks [] = refl
 fitting-shortest ks (p ∷ ps) = ap (λ (n : ℕ). oneIf (not (p .optional)) + n) (fitting-shortest ks ps)
+
+pub fitting-replicate : (ks : List Code) (n : ℕ) (p : Position) → fitting ks (replicate n p) ≡ replicate n (fittingOne ks p)
+fitting-replicate ks zero p = refl
+fitting-replicate ks (suc n) p = ap (λ (l : List Position). fittingOne ks p ∷ l) (fitting-replicate ks n p)
 
 pub fitting-append : (ks : List Code) (ps qs : List Position) → fitting ks (ps ++ qs) ≡ fitting ks ps ++ fitting ks qs
 fitting-append ks [] qs = refl

@@ -1,16 +1,18 @@
--- A rule is refused by one of the numbers 1 to 8, so that 0 is free for a finished result. For any limits. Assumes nothing.
-use mathlib.Core.Path.{_≡_, refl}
+-- A stored rule is refused by one of the numbers 1 to 8, a new one by these or 16, so that 0 is free for a finished result. For any limits. Assumes nothing.
+use mathlib.Core.Path.{_≡_, refl, _∙_}
+use mathlib.Core.Logic.{_⊎_, inl, inr}
 use mathlib.Core.Bool.{Bool, true, false, cond, _&&_}
 use mathlib.Core.List.{List, [], _∷_}
 use Prim.Native.Nat.{ℕ, zero, suc, pred, _+_, _≤_}
 use native.Mathlib.Omega.{arith}
 use lib.Dec.{leb, ltb, eqb}
 use lib.ListN.{length, drop}
-use Rattle.model.specs.RefusalNumbers.{ruleEmpty, ruleLong, classFault, gapFault, markFault, byteFault, admitsEmpty}
+use Rattle.model.specs.RefusalNumbers.{ruleEmpty, ruleLong, classFault, gapFault, markFault, byteFault, admitsEmpty, outerGap}
 use Rattle.model.specs.Ascii.{byteOf, ascii}
 use Rattle.model.specs.Occurrence.{shortest}
-use Rattle.model.specs.RuleText.{oneOf, mayEscape, byte, any, class, gap, Element, kindSet, positions, size, ReadKind, bad, good, Items, faulty, items, itemsFrom, someBelow, classOf, classAt, boundAt, startsWith, gapAt, escapeAt, kindAt, oftenAfter, markBytes}
-use Rattle.model.specs.NumberedAnswers.{Parsed, refused, accepted, addElement, elementsFrom, orEmpty, parseWithin}
+use Rattle.model.specs.Spelling.{Outer, inner, outerAt, outer, spelled}
+use Rattle.model.specs.RuleText.{ruleLimit, positionLimit, oneOf, mayEscape, byte, any, class, gap, Element, kindSet, positions, size, ReadKind, bad, good, Items, faulty, items, itemsFrom, someBelow, classOf, classAt, boundAt, startsWith, gapAt, escapeAt, kindAt, oftenAfter, markBytes}
+use Rattle.model.specs.NumberedAnswers.{Parsed, refused, accepted, addElement, elementsFrom, orEmpty, parseWithin, parseStored, orOuter, outerChecked, parse}
 use Rattle.model.proofs.Accepted.{elements-bad, elements-over, elements-good}
 
 -- What is read is refused, if at all, by a row of the table.
@@ -100,3 +102,18 @@ module _ (most : ℕ) (fold : Bool) where
 
   pub refusal-row : (longest : ℕ) (rule : List ℕ) (n p : ℕ) → parseWithin longest most fold rule ≡ refused n p → (ruleEmpty ≤ n) × (n ≤ admitsEmpty)
   refusal-row longest rule n p q = rw q at (rule-row longest rule)
+
+-- A refusal of a rule: one of rows 1 to 8, or 16.
+abbrev pub RuleNumber : ℕ → Type 0
+RuleNumber n = ((ruleEmpty ≤ n) × (n ≤ admitsEmpty)) ⊎ (n ≡ outerGap)
+
+pub rule-refusal : (fold : Bool) (rule : List ℕ) (n p : ℕ) → parse fold rule ≡ refused n p → RuleNumber n
+rule-refusal fold rule n p e = go (parseStored fold rule) refl e
+  where
+    by-outer : (es : List Element) (o : Outer) → orOuter es o ≡ refused n p → RuleNumber n
+    by-outer es inner q = let z : _≡_ {A = ℕ} 0 1 = cc in absurd (omega arith)
+    by-outer es (outerAt k) q = inr cc
+
+    go : (x : Parsed) → parseStored fold rule ≡ x → outerChecked fold rule x ≡ refused n p → RuleNumber n
+    go (refused m k) q r = inl (refusal-row positionLimit fold ruleLimit rule n p (q ∙ r))
+    go (accepted es) q r = by-outer es (outer (spelled fold rule)) r

@@ -1,5 +1,6 @@
 -- Sentences and edges of document 01 as closed cases of the definitions, by computing: rules that are refused or accepted, references, held tails, the
--- lister's example, a plan cut inside `&amp;`, moves of windows, what is shown, and codes. (M1 to M12 are in `MarkedTable`.) Assumes nothing.
+-- lister's example, a plan cut inside `&amp;`, moves of windows, what is shown, codes, and stored rules rewritten. (M1 to M12 are in `MarkedTable`, rules as long as may
+-- be in the crate `rule_spelling`.) Assumes nothing.
 use mathlib.Core.Path.{_≡_, refl}
 use mathlib.Core.Bool.{Bool, true, false, _&&_}
 use mathlib.Core.List.{List, [], _∷_, _++_, map}
@@ -10,6 +11,7 @@ use Rattle.model.specs.Ascii.{ascii}
 use Rattle.model.specs.Occurrence.{Position, oneIf, shortest, isStart, ends, starts}
 use Rattle.model.specs.RuleText.{foldFlag, oneOf, otherCase, kindSet, class, byte, gap, once, optional, repeatable}
 use Rattle.model.specs.NumberedAnswers.{accepted, parse, rulePositions, wholeRefusal, overwrite}
+use Rattle.model.specs.Rewriter.{Rewrite, turnsDown, writes, rewrite}
 use Rattle.model.specs.Codes.{setBytes, inSet, smudged, parseWith}
 use Rattle.model.specs.References.{formLimit, utf8, byteTokens, tokensFrom, decode, heldTail, outTokens, letOut}
 use Rattle.model.specs.PlainScan.{Call, feed, finish, Answer, refused, reported, refusalFor, plainScan, reportedEnds}
@@ -18,15 +20,15 @@ use Rattle.model.specs.MarkedTable.{same, isAccepted, isRefused}
 
 -- ---- rules
 
-data Rule : Type 0 where
+pub data Rule : Type 0 where
   refuses : (rule : List ℕ) (number place : ℕ) → Rule
   has : (rule : List ℕ) (positions shortest : ℕ) → Rule
 
-abbrev ruleHolds : (fold : Bool) → Rule → Bool
+abbrev pub ruleHolds : (fold : Bool) → Rule → Bool
 ruleHolds fold (refuses rule n p) = isRefused (parse fold rule) n p
 ruleHolds fold (has rule n m) = eqb n (length (rulePositions fold rule)) && eqb m (shortest (rulePositions fold rule))
 
-abbrev rulesHold : (fold : Bool) → List Rule → Bool
+abbrev pub rulesHold : (fold : Bool) → List Rule → Bool
 rulesHold fold [] = true
 rulesHold fold (r ∷ rs) = ruleHolds fold r && rulesHold fold rs
 
@@ -34,14 +36,22 @@ rules : T (rulesHold false (
     refuses [] 1 0
     ∷ has (replicate 255 97) 255 255
     ∷ refuses (replicate 256 97) 7 255
-    ∷ refuses (ascii "[" ++ replicate 1021 97) 3 0  -- 1,022 bytes
-    ∷ has (ascii "[" ++ replicate 1021 97 ++ ascii "]") 1 1  -- 1,023 bytes
     ∷ refuses (replicate 1024 97) 2 1023
-    ∷ has (ascii "{1,63}") 63 1
-    ∷ has (ascii "{01,02}") 2 1
-    ∷ has (ascii "{1,63}a") 64 2  -- "so `{1,63}a` passes"
-    ∷ has (ascii "{1,64}") 64 1
-    ∷ has (ascii "{1,99}{1,99}{1,57}") 255 3
+    ∷ has (ascii "a{1,62}b") 64 3
+    ∷ has (ascii "a{01,02}b") 4 3
+    ∷ has (ascii "{64,64}") 64 64
+    ∷ has (ascii "a{1,99}{1,99}{1,55}b") 255 5
+    ∷ refuses (ascii "a{1,99}{1,99}{1,55}bc") 7 20
+    ∷ refuses (ascii "{1,63}") 16 0  -- "M7, `{1,63}` and `{1,63}a` become refused cases"
+    ∷ refuses (ascii "{1,63}a") 16 0
+    ∷ refuses (ascii "a{1,63}") 16 1
+    ∷ refuses (ascii "{1,99}{1,99}{1,57}") 16 0  -- the first such gap
+    ∷ refuses (ascii "{2,2}{0,3}") 16 5
+    ∷ refuses (ascii "a[{1,2}]\\{{1,2}") 16 10
+    ∷ has (ascii "{2,2}{0,3}a{02,2}") 8 5  -- equal bounds are no fault
+    ∷ has (ascii "\\{1,2\\}") 5 5
+    ∷ refuses (ascii "{0,1}") 8 5  -- "checked after 8"
+    ∷ refuses (ascii "{1,2}a{2,1}") 4 6
     ∷ refuses (ascii "{1,99}{1,99}{1,57}a") 7 18
     ∷ refuses (ascii "{1,99}{1,99}{1,58}") 7 12
     ∷ refuses (ascii "{1,99}?") 5 6
@@ -96,10 +106,11 @@ fold-decides = tt
 fold-flags : (foldFlag 0 ≡ false) × (foldFlag 1 ≡ true) × (foldFlag 256 ≡ true) × (foldFlag 2147483648 ≡ true)
 fold-flags = (refl, refl, refl, refl)
 
-elements : parse false (ascii "[^a\\]-\\^{]+\\+?{2,3}") ≡ accepted (
+elements : parse false (ascii "[^a\\]-\\^{]+\\+?{2,3}x") ≡ accepted (
     record { kind = class true (record { low = 97; high = 97 } ∷ record { low = 93; high = 94 } ∷ record { low = 123; high = 123 } ∷ []); often = repeatable }
     ∷ record { kind = byte 43; often = optional }
     ∷ record { kind = gap 2 3; often = once }
+    ∷ record { kind = byte 120; often = once }
     ∷ []
     )
 elements = refl
@@ -298,6 +309,7 @@ moves : T (movesHold (
     ∷ move (ascii "ab?") (ascii "b") (ascii "ab") 1
     ∷ move (ascii "aa") (ascii "aa") (ascii "a") 1  -- a window that matches, with a shift below m
     ∷ move (ascii "a?b") (ascii "a") (ascii "b") 1  -- M6
+    ∷ move (ascii ".?.a") (ascii "xx") (ascii "a") 1  -- a window of M7's, without its gap
     ∷ move (ascii "b*a+b+") (ascii "ab") (ascii "ab") 1  -- repeats at the front and at the back
     ∷ []
     ))
@@ -384,6 +396,7 @@ smudges : T (smudgesHold (
     ∷ refuses 0 (ascii "ab?") (ascii "b") (setOf (ascii "x")) 15 0  -- .. an optional one too
     ∷ refuses 0 (ascii "A") (ascii "A") (setOf (ascii "b")) 15 0  -- judged after fold: with it `a` is left
     ∷ refuses 0 (ascii "a?") (ascii "??") [] 8 2  -- "checked next after the rule"
+    ∷ refuses 0 (ascii "a{1,2}") (ascii "??") [] 16 1  -- 16 "before 15"
     ∷ []
     ))
 unfolding utf8
@@ -392,3 +405,47 @@ smudges = tt
 -- "shifts .. read fit in this way"
 smudged-windows : windows (smudged false (ascii "abc") question (setOf (ascii "abc"))) (ascii "a??abc") ≡ 0 ∷ 1 ∷ 3 ∷ []
 smudged-windows = refl
+
+-- ---- stored rules, rewritten
+
+pub data Stored : Type 0 where
+  becomes : (rule text : List ℕ) → Stored
+  turned : (fold : Bool) (rule : List ℕ) (lent number place : ℕ) → Stored
+
+abbrev pub writesSo : Rewrite → List ℕ → Bool
+writesSo (turnsDown n p) text = false
+writesSo (writes t) text = same t text
+
+abbrev pub turnsSo : Rewrite → (number place : ℕ) → Bool
+turnsSo (turnsDown n p) number place = eqb n number && eqb p place
+turnsSo (writes t) number place = false
+
+-- What is written is a new rule, and is rewritten to itself.
+abbrev pub storedHold : List Stored → Bool
+storedHold [] = true
+storedHold (becomes rule text ∷ rest) = writesSo (rewrite false rule 1023) text && isAccepted (parse false text) && writesSo (rewrite false text 1023) text && storedHold rest
+storedHold (turned fold rule lent n p ∷ rest) = turnsSo (rewrite fold rule lent) n p && storedHold rest
+
+stored : T (storedHold (
+    becomes (ascii "{0,2}{1,3}") (ascii ".")
+    ∷ becomes (ascii "{0,2}{0,1}a{0,3}{0,2}") (ascii "a")
+    ∷ becomes (ascii "{1,2}{0,3}a") (ascii ".{0,3}a")  -- dots bare no gap
+    ∷ becomes (ascii "{1,2}{0,3}") (ascii ".")
+    ∷ becomes (ascii "{3,5}") (ascii "...")
+    ∷ becomes (ascii "{1,2}a") (ascii ".a")  -- M7's rule
+    ∷ becomes (ascii "{1,2}a{2,4}") (ascii ".a..")
+    ∷ becomes (ascii "{0,1}{2,2}a") (ascii "{2,2}a")  -- a bared gap of equal bounds stays
+    ∷ becomes (ascii "{2,2}{0,3}a") (ascii "{2,2}{0,3}a")
+    ∷ becomes (ascii "{0,1}{01,02}{1,1}{3,4}") (ascii ".{1,1}...")
+    ∷ becomes (ascii "a{01,02}b{00,09}") (ascii "a{01,02}b")  -- inside, spellings stay
+    ∷ becomes (ascii "a\\{1,2\\}") (ascii "a\\{1,2\\}")
+    ∷ becomes (ascii "[{1,2}]+") (ascii "[{1,2}]+")
+    ∷ turned false (ascii "a??") 1022 9 0
+    ∷ turned false (ascii "a??") 1023 5 2
+    ∷ turned false (ascii "{0,1}") 1023 8 5
+    ∷ turned false [] 1023 1 0
+    ∷ turned true (allBut ++ ascii "{1,2}") 1023 3 0  -- "with their fold flag"
+    ∷ becomes (allBut ++ ascii "{1,2}") (allBut ++ ascii ".")
+    ∷ []
+    ))
+stored = tt

@@ -1,10 +1,12 @@
--- The seat-rule finder: document 01 as definitions, a file for each of its sections ("Forward step" is in the crate `shift_and`), and the codes of note 9. `Examples`
+-- The seat-rule finder: document 01 as definitions, a file for each of its sections ("Forward step" is in the crate `shift_and`), the codes of note 9, and the rewriter of note 10. `Examples`
 -- are closed cases of them.
 pub mod Ascii
 pub mod Occurrence
 pub mod RefusalNumbers
 pub mod RuleText
+pub mod Spelling
 pub mod NumberedAnswers
+pub mod Rewriter
 pub mod Codes
 pub mod References
 pub mod PlainScan

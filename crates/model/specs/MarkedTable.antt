@@ -1,5 +1,5 @@
--- Document 01, "Marked table": M1 to M12 as one list of cases, and the two plans of note 4, one padded and one short; what it is for them to hold, and that
--- they do. Each text goes through the plain scan too. Assumes nothing.
+-- Document 01, "Marked table": M1 to M12 as one list of cases, the two plans of note 4, one padded and one short, and a rule that shows what M7 showed; what it
+-- is for them to hold, and that they do. Each text goes through the plain scan too. Assumes nothing.
 use mathlib.Core.Bool.{Bool, true, false, _&&_}
 use mathlib.Core.List.{List, [], _∷_}
 use Prim.Native.Nat.{ℕ, _+_}
@@ -64,7 +64,8 @@ table =
     ∷ finds (ascii "a+") (ascii "aaa") (1 ∷ 2 ∷ 3 ∷ []) (0 ∷ 1 ∷ 2 ∷ []) (marked 3)  -- M4
     ∷ finds (ascii "ab?") (ascii "ab") (1 ∷ 2 ∷ []) (0 ∷ []) (marked 2)  -- M5
     ∷ finds (ascii "a?b") (ascii "ab") (2 ∷ []) (0 ∷ 1 ∷ []) (marked 2)  -- M6
-    ∷ finds (ascii "{1,2}a") (ascii "xxa") (3 ∷ []) (0 ∷ 1 ∷ []) (marked 2)  -- M7
+    ∷ refuses (ascii "{1,2}a") 16 0  -- M7, as note 10 has it
+    ∷ finds (ascii ".?.a") (ascii "xxa") (3 ∷ []) (0 ∷ 1 ∷ []) (marked 2)  -- the mistake that M7 showed, without its gap: a move by m after a match loses start 1
     ∷ finds (ascii "a") [] [] [] (marked 0)  -- M8
     ∷ decodes (ascii "&amp;amp;") (ascii "&amp;")  -- M9
     ∷ decodes (ascii "&#xE9;") (195 ∷ 169 ∷ [])  -- M10

@@ -1,13 +1,14 @@
--- Document 01, "Numbered answers": rows 1 to 8 and their order, rows 9 and 10 of whole-text calls, and lists at exit. (Rows 9, 10 and 12 of the scan
+-- Document 01, "Numbered answers": rows 1 to 8 and 16 and their order, rows 9 and 10 of whole-text calls, and lists at exit. (Rows 9, 10 and 12 of the scan
 -- calls stand in `PlainScan`.) Assumes nothing.
 use mathlib.Core.Bool.{Bool, true, false, cond}
 use mathlib.Core.List.{List, [], _∷_, _++_}
 use Prim.Native.Nat.{ℕ, zero, suc, pred, _+_}
 use lib.Dec.{leb, ltb, eqb}
 use lib.ListN.{length, drop}
-use Rattle.model.specs.RefusalNumbers.{ruleEmpty, ruleLong, tooManyPositions, admitsEmpty, tooShort, tooMuch}
+use Rattle.model.specs.RefusalNumbers.{ruleEmpty, ruleLong, tooManyPositions, admitsEmpty, tooShort, tooMuch, outerGap}
 use Rattle.model.specs.Occurrence.{Position, shortest}
 use Rattle.model.specs.RuleText.{ruleLimit, positionLimit, Element, positions, size, bad, good, kindAt, oftenAfter, markBytes}
+use Rattle.model.specs.Spelling.{Outer, inner, outerAt, outer, spelled}
 
 -- Row 10: "more than 4,294,967,295 bytes in the text, or in all the pieces".
 abbrev pub textLimit : ℕ
@@ -50,8 +51,22 @@ parseWithin longest most fold rule =
     (cond (ltb longest (length rule)) (refused ruleLong longest)
     (orEmpty fold rule (elementsFrom most fold 0 0 0 rule)))
 
+-- A stored rule, of before note 10: "text that was never a rule gets its old answer".
+abbrev pub parseStored : (fold : Bool) → List ℕ → Parsed
+parseStored fold rule = parseWithin ruleLimit positionLimit fold rule
+
+-- Row 16: "16 when a rule's first or last element is a gap with a < b, checked after 8 .., its place the `{` of the first such gap."
+abbrev pub orOuter : List Element → Outer → Parsed
+orOuter es inner = accepted es
+orOuter es (outerAt p) = refused outerGap p
+
+abbrev pub outerChecked : (fold : Bool) → List ℕ → Parsed → Parsed
+outerChecked fold rule (refused n p) = refused n p
+outerChecked fold rule (accepted es) = orOuter es (outer (spelled fold rule))
+
+-- "new rules may not have one": what every call but the rewriter asks of a rule.
 abbrev pub parse : (fold : Bool) → List ℕ → Parsed
-parse fold rule = parseWithin ruleLimit positionLimit fold rule
+parse fold rule = outerChecked fold rule (parseStored fold rule)
 
 -- The positions of an accepted rule; of a refused one, none.
 abbrev pub positionsBy : (fold : Bool) → Parsed → List Position

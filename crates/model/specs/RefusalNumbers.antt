@@ -52,3 +52,7 @@ alreadyFinished = 12
 -- "there are more than 8 codes, the sets are not 32 bytes for each code, a code is named twice, a set is empty or holds a code, or a position holds codes alone"
 abbrev pub codesFault : ℕ
 codesFault = 15
+
+-- "a rule's first or last element is a gap with a < b"
+abbrev pub outerGap : ℕ
+outerGap = 16

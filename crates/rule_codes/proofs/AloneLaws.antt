@@ -21,8 +21,8 @@ use Rattle.rule_element.specs.declared.ElementResult.{ElementResult}
 use Rattle.rule_element.specs.Reading.{kindOf, setOf, sizeOf, ElementMoves, ReadsElement}
 use Rattle.rule_parser.specs.declared.Prepared.{Prepared}
 use Rattle.rule_parser.specs.Preparing.{refusalOf, preparedBy, prepared, Prepares}
-use Rattle.rule_parser.proofs.RuleLaws.{Found, moved, element-found}
-use Rattle.rule_table.proofs.FillLaws.{elements-over, elements-never, elements-after, Accepts, accepts}
+use Rattle.rule_element.proofs.RuleReading.{Found, moved, element-found, elements-over, elements-never, elements-after}
+use Rattle.rule_table.proofs.FillLaws.{Accepts, accepts}
 use Rattle.code_list.proofs.CodeLists.{codes-few}
 use Rattle.rule_codes.specs.RuleCodes.{addCodes, kindAlone, OfByte, KindAloneIs, Judgeable, PreparesWith}
 use Rattle.rule_codes.proofs.CodeSets.{kind-is-alone}

@@ -44,7 +44,7 @@ pub record Judgeable (flag : ℕ) (rule codes : List ℕ) : Type 0 where
   pub fine : prepared flag rule .number ≡ 0
   pub few : length codes ≤ codesMost
 
--- ---- what `prepare` ensures: rows 1 to 8, then 15; "Every refusal has zero counts beside its number and place"
+-- ---- what `prepare` ensures: the rule's refusals, then 15; "Every refusal has zero counts beside its number and place"
 
 pub record PreparesWith (flag : ℕ) (rule codes sets : List ℕ) (r : Prepared) : Type 0 where
   pub is : r ≡ preparedBy (foldFlag flag) (parseWith (foldFlag flag) rule codes sets)

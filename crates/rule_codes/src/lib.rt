@@ -91,7 +91,7 @@ fn alone(rule: &[u8], fold: u32, codes: &[u8]) -> bool
     some_alone(rule, fold, codes)
 }
 
-// What a rule with codes says, or with which number and place it is refused: rows 1 to 8, then 15.
+// What a rule with codes says, or with which number and place it is refused: the rule's own, then 15.
 pub fn prepare(rule: &[u8], fold: u32, codes: &[u8], sets: &[u8]) -> Prepared
     ensures { λ r. ⌜ PreparesWith fold (now (rule .entry)) (now (codes .entry)) (now (sets .entry)) r ⌝ }
 {

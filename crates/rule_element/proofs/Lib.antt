@@ -2,3 +2,4 @@
 pub mod Classes
 pub mod KindLaws
 pub mod Elements
+pub mod RuleReading

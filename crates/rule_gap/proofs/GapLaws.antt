@@ -1,4 +1,4 @@
--- The laws of `digit`, `read_bound` and `read_bounds`. On plain values. Assumes nothing.
+-- The laws of `digit`, `read_bound`, `read_bounds` and `unequal_at`. On plain values. Assumes nothing.
 use mathlib.Core.Path.{_≡_, refl, sym, ap, ap₂, _∙_}
 use mathlib.Core.List.{List, [], _∷_}
 use mathlib.Core.Bool.{true, false, cond, _&&_}
@@ -8,16 +8,17 @@ use native.Mathlib.Decide.{decLe}
 use native.Mathlib.Numerals.{add-one}
 use native.Mathlib.Nat.{add-zero}
 use lib.ListN.{length, getD, drop}
-use lib.Seq.{drop-drop}
-use lib.Dec.{eqb, leb}
+use lib.Seq.{drop-cons, drop-drop}
+use lib.Dec.{eqb, leb, ltb}
 use borrow.Author.Tests.{eq-eqb, ne-eqb, lt-ltb, le-ltb, le-leb, lt-leb}
 use Rattle.model.specs.RefusalNumbers.{gapFault}
 use Rattle.model.specs.RuleText as Model
 use Rattle.model.specs.RuleText.{bad, good, gap, boundAt, isDecimal, startsWith, gapAt}
 use Rattle.rule_class.proofs.Ends.{past-end, within, byte-at}
 use Rattle.rule_gap.specs.declared.Bound.{Bound}
+use Rattle.rule_gap.specs.declared.Bounds.{Bounds}
 use Rattle.rule_gap.specs.declared.Bounds.the-variants.{Both, Wrong}
-use Rattle.rule_gap.specs.Bounds.{digitOf, ReadsDigit, boundOf, ReadsBound, ReadsBounds}
+use Rattle.rule_gap.specs.Bounds.{digitOf, ReadsDigit, boundOf, ReadsBound, gapBy, ReadsBounds, unequalKind, unequalAt}
 
 -- ---- a bound
 
@@ -246,3 +247,27 @@ module _ (s : List ℕ) (at : ℕ) (h : at < length s) (ra : Bound) (rc : ReadsB
                   is = f ∙ ap₂ good (ap₂ gap (sym value-a) (sym value-b)) n;
                   moves = (omega (arith, next-a, next-b), omega arith, (o, omega arith, omega (arith, rd .low)));
                 }
+
+-- ---- `unequal_at`
+
+module _ (s : List ℕ) (at c : ℕ) (ec : c ≡ getD s at 0) where
+  pub no-brace : (c ≡ 123 → ⊥) → false ≡ unequalAt (drop at s)
+  no-brace n = go (drop at s) (byte-at s at 0 ∙ ap (λ (j : ℕ). getD s j 0) (add-zero at) ∙ sym ec)
+    where
+      go : (cs : List ℕ) → getD cs 0 0 ≡ c → false ≡ unequalAt cs
+      go [] e = refl
+      go (d ∷ cs) e = rw (ne-eqb d 123 (λ q. n (sym e ∙ q)))
+
+  module _ (e : c ≡ 123) where
+    pub brace-inside : at < length s
+    brace-inside = within s at 122 (sym ec ∙ e)
+
+    by-gap : unequalAt (drop at s) ≡ unequalKind (gapAt (drop (suc at) s))
+    by-gap = rw (drop-cons s at 0 brace-inside, ← ec, e)
+
+    module _ (r : Bounds) (rc : ReadsBounds s at r) where
+      pub gap-wrong : r ≡ Wrong → false ≡ unequalAt (drop at s)
+      gap-wrong q = sym (by-gap ∙ ap unequalKind (rc .is ∙ ap (gapBy at) q))
+
+      pub gap-tells : (a b next : ℕ) → r ≡ Both a b next → ltb a b ≡ unequalAt (drop at s)
+      gap-tells a b next q = sym (by-gap ∙ ap unequalKind (rc .is ∙ ap (gapBy at) q))

@@ -1,14 +1,16 @@
 -- What the readers of src/lib.rt find: the model's reading of the bytes from an index on, with the place after it instead of a
 -- count of bytes; and that a reader moves on and stays within the rule. Assumes nothing.
 use mathlib.Core.Path.{_≡_}
-use mathlib.Core.Bool.{cond}
-use mathlib.Core.List.{List}
+use mathlib.Core.Bool.{Bool, false, cond}
+use mathlib.Core.List.{List, [], _∷_}
 use Prim.Native.Nat.{ℕ, suc, _+_, _-_, _≤_, _<_}
 use lib.ListN.{length, drop}
-use lib.Dec.{ltb}
+use lib.Dec.{ltb, eqb}
 use Rattle.model.specs.RefusalNumbers.{gapFault}
 use Rattle.model.specs.RuleText as Model
 use Rattle.model.specs.RuleText.{bad, good, gap, boundAt, gapAt}
+use Rattle.model.specs.Ascii.{byteOf}
+use Rattle.model.specs.Spelling.{unequal}
 use Rattle.rule_gap.specs.declared.Bound.{Bound}
 use Rattle.rule_gap.specs.declared.Bounds.{Bounds}
 use Rattle.rule_gap.specs.declared.Bounds.the-variants.{Both, Wrong}
@@ -47,3 +49,14 @@ BoundsMove s at (Both a b next) = (at < next) × (next ≤ length s) × ((a ≤ 
 pub record ReadsBounds (s : List ℕ) (at : ℕ) (r : Bounds) : Type 0 where
   pub is : gapAt (drop (suc at) s) ≡ gapBy at r
   pub moves : BoundsMove s at r
+
+-- ---- a gap with a < b
+
+abbrev pub unequalKind : Model.ReadKind → Bool
+unequalKind (bad n) = false
+unequalKind (good k n) = unequal k
+
+-- such a gap begins a text
+abbrev pub unequalAt : List ℕ → Bool
+unequalAt [] = false
+unequalAt (c ∷ cs) = cond (eqb c (byteOf "{")) (unequalKind (gapAt cs)) false

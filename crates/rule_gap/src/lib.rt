@@ -1,7 +1,8 @@
-// A gap of a rule text (document 01, "Rule text"), by index into the whole rule. Each contract is one record of `specs/Bounds.antt`.
+// A gap of a rule text (document 01, "Rule text"), by index into the whole rule. Each contract is a record or a definition of `specs/Bounds.antt`.
+ghost use mathlib.Core.Path.{_≡_};
 ghost use Prim.Native.Nat.{_<_};
-ghost use lib.ListN.{length};
-ghost use Rattle.rule_gap.specs.Bounds.{ReadsDigit, ReadsBound, ReadsBounds};
+ghost use lib.ListN.{length, drop};
+ghost use Rattle.rule_gap.specs.Bounds.{ReadsDigit, ReadsBound, ReadsBounds, unequalAt};
 
 // A bound of a gap, and the place after it: the place where it was looked for, if no digit stands there.
 pub struct Bound {
@@ -83,4 +84,17 @@ pub fn read_bounds(rule: &[u8], at: usize) -> Bounds
     }
     let next = brace + 1;
     Bounds::Both(a.value, b.value, next)
+}
+
+// Whether a gap with a < b begins at a place.
+pub fn unequal_at(rule: &[u8], at: usize) -> bool
+    ensures { λ r. ⌜ r ≡ unequalAt (drop at (now (rule .entry))) ⌝ }
+{
+    if rule_class::byte_or_zero(rule, at) != b'{' {
+        return false;
+    }
+    let Bounds::Both(a, b, _) = read_bounds(rule, at) else {
+        return false;
+    };
+    a < b
 }

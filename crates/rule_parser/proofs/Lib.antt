@@ -2,3 +2,4 @@
 pub mod ElementMasks
 pub mod RuleLaws
 pub mod PrepareLaws
+pub mod OuterGaps

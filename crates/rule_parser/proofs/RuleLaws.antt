@@ -1,21 +1,18 @@
 -- The elements of a rule, one after the other: the loop of `read_rule`. On plain values. Assumes nothing.
 use mathlib.Core.Path.{_≡_, refl, sym, ap, ap₂, _∙_}
-use mathlib.Core.List.{List, [], _∷_, _++_}
-use mathlib.Core.Bool.{Bool, true, false}
-use Prim.Native.Nat.{ℕ, zero, suc, pred, _+_, _-_, _*_, _^_, _≤_, _<_}
+use mathlib.Core.List.{List, _++_}
+use mathlib.Core.Bool.{Bool}
+use Prim.Native.Nat.{ℕ, _+_, _-_, _*_, _^_, _≤_, _<_}
 use native.Mathlib.Omega.{arith}
-use native.Mathlib.Nat.{add-zero, add-suc, suc-add, mul-assoc, add-mul, zero-mul}
-use lib.ListN.{length, getD, drop, length-append, drop-of-length-le}
-use lib.Seq.{drop-cons, drop-drop}
-use lib.Dec.{leb}
+use native.Mathlib.Nat.{add-zero, mul-assoc, add-mul, zero-mul}
+use lib.ListN.{length, drop, length-append}
 use lib.Bits.{bitOr, or-lt, or-shifted-r}
 use lib.Pow.{pow-add, pow-mono, pow-pos, shl-lt}
-use Rattle.model.specs.RefusalNumbers.{tooManyPositions}
 use Rattle.model.specs.Occurrence.{Position}
 use Rattle.model.specs.RuleText as Model
-use Rattle.model.specs.RuleText.{positionLimit, bad, good, positions, kindPositions, kindAt, oftenAfter, markBytes}
+use Rattle.model.specs.RuleText.{positionLimit, positions, kindPositions}
+use Rattle.model.specs.Spelling.{spelledFrom, spelled}
 use Rattle.model.specs.NumberedAnswers.{Parsed, refused, accepted, addElement, elementsFrom}
-use Rattle.model.proofs.Accepted.{elements-bad, elements-over, elements-good}
 use Rattle.shift_and.specs.Masks.{maskFrom}
 use Rattle.shift_and.proofs.MaskLaws.{mask-small, mask-append}
 use Rattle.shift_and_wide.specs.declared.Wide.{Wide}
@@ -25,100 +22,13 @@ use Rattle.shift_and_wide.proofs.Masks.{words-number, number-laid, laid-fits, n
 use Rattle.rule_element.specs.declared.Element.{Element}
 use Rattle.rule_element.specs.declared.ElementAnswer.the-variants.{Got, Refused as Refuses}
 use Rattle.rule_element.specs.declared.ElementResult.{ElementResult}
-use Rattle.rule_element.specs.Reading.{kindOf, setOf, oftenOf, sizeOf, bytesOf, KindFits, noElement, elementOf, readBy, ElementMoves, ReadsElement}
-use Rattle.rule_element.proofs.Elements.{size-same, bytes-same}
+use Rattle.rule_element.specs.Reading.{kindOf, oftenOf, sizeOf, KindFits, ReadsElement}
+use Rattle.rule_element.proofs.RuleReading.{elements-end, spelled-end, element-refused, moved, element-found}
 use Rattle.rule_parser.specs.declared.RuleMasks.{RuleMasks}
 use Rattle.rule_parser.specs.declared.Outcome.{Outcome}
 use Rattle.rule_parser.specs.declared.Outcome.the-variants.{Accepted, Refused}
-use Rattle.rule_parser.specs.Gathering.{isOptional, isRepeating, optionalCount, repeatCount, Fits, gainedBy, start, gather, ReadsRule}
+use Rattle.rule_parser.specs.Gathering.{isOptional, isRepeating, optionalCount, repeatCount, Fits, gainedBy, start, lastPlace, gather, ReadsRule}
 use Rattle.rule_parser.proofs.ElementMasks.{kind-length, optional-mask, repeat-mask, optional-within, repeat-within}
-
--- ---- the model's reading, element by element
-
--- bytes that belong to an element already read are dropped
-elements-skip : (fold : Bool) (k place used : ℕ) (cs : List ℕ) → elementsFrom positionLimit fold k place used cs ≡ elementsFrom positionLimit fold 0 (place + k) used (drop k cs)
-elements-skip fold zero place used cs = ap (λ (p : ℕ). elementsFrom positionLimit fold 0 p used cs) (sym (add-zero place))
-elements-skip fold (suc k) place used [] = refl
-elements-skip fold (suc k) place used (c ∷ cs) = elements-skip fold k (suc place) used cs ∙ ap (λ (p : ℕ). elementsFrom positionLimit fold 0 p used (drop k cs)) (suc-add place k ∙ sym (add-suc place k))
-
-module _ (fold : Bool) (used : ℕ) (s : List ℕ) (at : ℕ) where
-  pub elements-end : length s ≤ at → elementsFrom positionLimit fold 0 at used (drop at s) ≡ accepted []
-  elements-end h = ap (elementsFrom positionLimit fold 0 at used) (drop-of-length-le s h)
-
-  module _ (h : at < length s) where
-    here : drop at s ≡ getD s at 0 ∷ drop (suc at) s
-    here = drop-cons s at 0 h
-
-    elements-turn : (d : Model.Kind) (n : ℕ) → kindAt fold (drop at s) ≡ good d n → leb (used + Model.size d) positionLimit ≡ true → 1 ≤ n → (o : Model.Often) → o ≡ oftenAfter d (drop (at + n) s)
-        → elementsFrom positionLimit fold 0 at used (drop at s)
-        ≡ addElement (record { kind = d; often = o }) (elementsFrom positionLimit fold 0 (at + n + markBytes o) (used + Model.size d) (drop (at + n + markBytes o) s))
-    elements-turn d n q r l o eo =
-        let e : oftenAfter d (drop n (getD s at 0 ∷ drop (suc at) s)) ≡ o =
-        ap (λ (x : List ℕ). oftenAfter d (drop n x)) (sym here) ∙ ap (oftenAfter d) (drop-drop n at s) ∙ sym eo in
-        let p : suc at + (pred n + markBytes o) ≡ at + n + markBytes o = omega arith in
-        ap (elementsFrom positionLimit fold 0 at used) here
-        ∙ elements-good positionLimit fold (getD s at 0) (drop (suc at) s) at used n d (ap (kindAt fold) (sym here) ∙ q) r
-        ∙ ap (λ (y : Model.Often). addElement (record { kind = d; often = y }) (elementsFrom positionLimit fold (pred n + markBytes y) (suc at) (used + Model.size d) (drop (suc at) s))) e
-        ∙ ap (addElement (record { kind = d; often = o }))
-        (elements-skip fold (pred n + markBytes o) (suc at) (used + Model.size d) (drop (suc at) s)
-        ∙ ap (elementsFrom positionLimit fold 0 (suc at + (pred n + markBytes o)) (used + Model.size d)) (drop-drop (pred n + markBytes o) (suc at) s)
-        ∙ ap (λ (j : ℕ). elementsFrom positionLimit fold 0 j (used + Model.size d) (drop j s)) p)
-
-    -- what `read_element` found, read back into the model's
-    module _ (r : ElementResult) (rc : ReadsElement fold used s at r) where
-      pub element-refused : (n : ℕ) → r .answer ≡ Refuses n → elementsFrom positionLimit fold 0 at used (drop at s) ≡ refused n at
-      element-refused n e = go (kindAt fold (drop at s)) refl
-        where
-          go : (x : Model.ReadKind) → kindAt fold (drop at s) ≡ x → elementsFrom positionLimit fold 0 at used (drop at s) ≡ refused n at
-          go (bad m) q =
-              let f : r ≡ noElement m = rc .is ∙ ap (readBy fold used s at) q in
-              let z : m ≡ n = cc in
-              ap (elementsFrom positionLimit fold 0 at used) here ∙ elements-bad positionLimit fold (getD s at 0) (drop (suc at) s) at used m (ap (kindAt fold) (sym here) ∙ q) ∙ ap (λ (y : ℕ). refused y at) z
-          go (good d m) q = room (leb (used + Model.size d) positionLimit) refl
-            where
-              room : (b : Bool) → leb (used + Model.size d) positionLimit ≡ b → elementsFrom positionLimit fold 0 at used (drop at s) ≡ refused n at
-              room true b = let f : r ≡ elementOf fold used at d m (oftenAfter d (drop (at + m) s)) = rc .is ∙ ap (readBy fold used s at) q ∙ rw b in let z : _≡_ {A = ℕ} 0 1 = cc in absurd (omega arith)
-              room false b =
-                  let f : r ≡ noElement tooManyPositions = rc .is ∙ ap (readBy fold used s at) q ∙ rw b in
-                  let z : 7 ≡ n = cc in
-                  ap (elementsFrom positionLimit fold 0 at used) here ∙ elements-over positionLimit fold (getD s at 0) (drop (suc at) s) at used m d (ap (kindAt fold) (sym here) ∙ q) b ∙ ap (λ (y : ℕ). refused y at) z
-
-      module _ (element : Element) (next : ℕ) (e : r .answer ≡ Got element next) where
-        pub record Found : Type 0 where
-          pub kind : Model.Kind
-          pub often : Model.Often
-          pub is-element : element ≡ record { kind = kindOf used kind; often = oftenOf often }
-          pub is-set : r .set ≡ setOf fold kind
-          pub turn : elementsFrom positionLimit fold 0 at used (drop at s) ≡ addElement (record { kind = kind; often = often }) (elementsFrom positionLimit fold 0 next (used + sizeOf (element .kind)) (drop next s))
-
-        pub moved : ElementMoves used s at element next
-        moved = rw e at (rc .moves)
-
-        pub element-found : Found
-        element-found = go (kindAt fold (drop at s)) refl
-          where
-            go : (x : Model.ReadKind) → kindAt fold (drop at s) ≡ x → Found
-            go (bad m) q = let f : r ≡ noElement m = rc .is ∙ ap (readBy fold used s at) q in let z : _≡_ {A = ℕ} 0 1 = cc in absurd (omega arith)
-            go (good d m) q = room (leb (used + Model.size d) positionLimit) refl
-              where
-                room : (b : Bool) → leb (used + Model.size d) positionLimit ≡ b → Found
-                room false b = let f : r ≡ noElement tooManyPositions = rc .is ∙ ap (readBy fold used s at) q ∙ rw b in let z : _≡_ {A = ℕ} 0 1 = cc in absurd (omega arith)
-                room true b =
-                    let o = oftenAfter d (drop (at + m) s) in
-                    let f : r ≡ elementOf fold used at d m o = rc .is ∙ ap (readBy fold used s at) q ∙ rw b in
-                    let x : element ≡ record { kind = kindOf used d; often = oftenOf o } = cc in
-                    let n : next ≡ at + m + markBytes o = cc in
-                    let mark : bytesOf (element .often) ≡ markBytes o = ap (λ (y : Element). bytesOf (y .often)) x ∙ bytes-same o in
-                    let size : sizeOf (element .kind) ≡ Model.size d = ap (λ (y : Element). sizeOf (y .kind)) x ∙ size-same used d in
-                    let l : 1 ≤ m = omega (arith, moved .ahead) in
-                    record {
-                      kind = d;
-                      often = o;
-                      is-element = x;
-                      is-set = ap (λ (y : ElementResult). y .set) f;
-                      turn = elements-turn d m q b l o refl
-                          ∙ sym (ap₂ (λ (j u : ℕ). addElement (record { kind = d; often = o }) (elementsFrom positionLimit fold 0 j u (drop j s))) n (ap (λ (y : ℕ). used + y) size));
-                    }
 
 -- ---- what was taken, and the element after it
 
@@ -141,8 +51,8 @@ placed-mask mask used n x y h =
     omega (arith, or-shifted-r x (used + 1) mask h)
 
 same-masks : {n n′ : ℕ} {x x′ y y′ : Wide} → n ≡ n′ → x ≡ x′ → y ≡ y′
-    → Accepted (record { positions = n; optional = x; repeats = y }) ≡ Accepted (record { positions = n′; optional = x′; repeats = y′ })
-same-masks a b c = rw (a, b, c)
+    → (p : ℕ) → Accepted (record { positions = n; optional = x; repeats = y }) p ≡ Accepted (record { positions = n′; optional = x′; repeats = y′ }) p
+same-masks a b c p = rw (a, b, c)
 
 -- the words of a mask of `used` positions
 pub record MaskOf (used : ℕ) (x : Wide) : Type 0 where
@@ -188,14 +98,14 @@ module _ (fold : Bool) (t : RuleMasks) (d : Model.Kind) (o : Model.Often) (few :
   abbrev repeatN : ℕ
   repeatN = repeatCount (kindOf used d) (oftenOf o)
 
-  pub gather-add : (x : Parsed) → gather fold t (addElement (record { kind = d; often = o }) x) ≡ gather fold (gainedBy t code) x
-  gather-add (refused n p) = refl
-  gather-add (accepted es) =
+  pub gather-add : (last : ℕ) (x : Parsed) → gather fold t last (addElement (record { kind = d; often = o }) x) ≡ gather fold (gainedBy t code) last x
+  gather-add last (refused n p) = refl
+  gather-add last (accepted es) =
       let a : used + length (kindPositions fold d o ++ positions fold es) ≡ used + size + length (positions fold es) =
       omega (arith, length-append (kindPositions fold d o) (positions fold es), long) in
       let b = laid-next isOptional optionalN (t .optional) (optional-mask fold used d o) (optional-within (kindOf used d) (oftenOf o)) heldO es in
       let c = laid-next isRepeating repeatN (t .repeats) (repeat-mask fold used d o) (repeat-within (kindOf used d) (oftenOf o)) heldR es in
-      same-masks a b c
+      same-masks a b c last
 
   pub taken-held : MaskOf (gainedBy t code .positions) (gainedBy t code .optional) × MaskOf (gainedBy t code .positions) (gainedBy t code .repeats)
   taken-held = (
@@ -205,33 +115,42 @@ module _ (fold : Bool) (t : RuleMasks) (d : Model.Kind) (o : Model.Often) (few :
 
 -- ---- the loop of `read_rule`
 
-pub record Parsing (fold : Bool) (s : List ℕ) (t : RuleMasks) (at : ℕ) : Type 0 where
+pub record Parsing (fold : Bool) (s : List ℕ) (t : RuleMasks) (at last : ℕ) : Type 0 where
   pub few : t .positions ≤ positionLimit
   pub heldO : MaskOf (t .positions) (t .optional)
   pub heldR : MaskOf (t .positions) (t .repeats)
-  pub rest : gather fold t (elementsFrom positionLimit fold 0 at (t .positions) (drop at s)) ≡ gather fold start (elementsFrom positionLimit fold 0 0 0 s)
+  pub behind : last ≤ at
+  pub inside : at ≤ length s
+  pub last-is : lastPlace last (spelledFrom fold 0 at (drop at s)) ≡ lastPlace 0 (spelled fold s)
+  pub rest : (p : ℕ) → gather fold t p (elementsFrom positionLimit fold 0 at (t .positions) (drop at s)) ≡ gather fold start p (elementsFrom positionLimit fold 0 0 0 s)
 
 module _ (fold : Bool) (s : List ℕ) where
-  pub begun : (x : Wide) → x ≡ noBits → Parsing fold s (record { positions = 0; optional = x; repeats = x }) 0
-  begun x e = rw e (record { few = omega arith; heldO = none; heldR = none; rest = refl })
+  pub begun : (x : Wide) → x ≡ noBits → Parsing fold s (record { positions = 0; optional = x; repeats = x }) 0 0
+  begun x e = rw e (record { few = omega arith; heldO = none; heldR = none; behind = omega arith; inside = omega arith; last-is = refl; rest = λ p. refl })
     where
       none : MaskOf 0 noBits
       none = record { words-fit = none-fits; small = rw number-none (pow-pos 1) }
 
-  module _ (t : RuleMasks) (at : ℕ) (g : Parsing fold s t at) where
-    pub rule-over : length s ≤ at → ReadsRule fold s (Accepted t)
+  module _ (t : RuleMasks) (at last : ℕ) (g : Parsing fold s t at last) where
+    pub rule-over : length s ≤ at → ReadsRule fold s (Accepted t last)
     unfolding maskFrom
-    rule-over h = record {
-      is = same-masks (let p : t .positions ≡ t .positions + 0 = omega arith in p) (whole (t .optional) (g .heldO)) (whole (t .repeats) (g .heldR)) ∙ sym (ap (gather fold t) (elements-end fold (t .positions) s at h)) ∙ g .rest;
-      few = g .few;
-    }
+    rule-over h =
+        let is-last : last ≡ lastPlace 0 (spelled fold s) = sym (ap (lastPlace last) (spelled-end fold (t .positions) s at h)) ∙ g .last-is in
+        record {
+          is =
+              same-masks (let p : t .positions ≡ t .positions + 0 = omega arith in p) (whole (t .optional) (g .heldO)) (whole (t .repeats) (g .heldR)) last
+              ∙ sym (ap (gather fold t last) (elements-end fold (t .positions) s at h)) ∙ g .rest last
+              ∙ ap (λ (p : ℕ). gather fold start p (elementsFrom positionLimit fold 0 0 0 s)) is-last;
+          few = g .few;
+          inside = omega (arith, g .behind, g .inside);
+        }
       where
         whole : (x : Wide) → MaskOf (t .positions) x → x ≡ wordsOf (number x + 0 * 2 ^ (t .positions + 1))
         whole x k = sym (words-number x (k .words-fit)) ∙ ap wordsOf (sym (add-zero (number x)) ∙ ap (λ (y : ℕ). number x + y) (sym (zero-mul (2 ^ (t .positions + 1)))))
 
     module _ (h : at < length s) (r : ElementResult) (rc : ReadsElement fold (t .positions) s at r) where
       pub rule-refused : (n : ℕ) → r .answer ≡ Refuses n → ReadsRule fold s (Refused n at)
-      rule-refused n e = record { is = sym (ap (gather fold t) (element-refused fold (t .positions) s at h r rc n e)) ∙ g .rest; few = tt }
+      rule-refused n e = record { is = sym (ap (gather fold t (lastPlace 0 (spelled fold s))) (element-refused fold (t .positions) s at h r rc n e)) ∙ g .rest (lastPlace 0 (spelled fold s)); few = tt; inside = tt }
 
       module _ (element : Element) (next : ℕ) (e : r .answer ≡ Got element next) where
         pub next-fits : Fits t element
@@ -240,7 +159,7 @@ module _ (fold : Bool) (s : List ℕ) where
         pub next-ahead : (at < next) × (next ≤ length s)
         next-ahead = let m = moved fold (t .positions) s at h r rc element next e in (omega (arith, m .ahead), m .inside)
 
-        pub rule-turn : (t′ : RuleMasks) → t′ ≡ gainedBy t element → Parsing fold s t′ next
+        pub rule-turn : (t′ : RuleMasks) → t′ ≡ gainedBy t element → Parsing fold s t′ next at
         rule-turn t′ e₁ =
             let used = t .positions in
             let m = moved fold used s at h r rc element next e in
@@ -257,31 +176,34 @@ module _ (fold : Bool) (s : List ℕ) where
               few = rw e′ room;
               heldO = rw e′ (held .0);
               heldR = rw e′ (held .1);
-              rest =
-                  ap (λ (y : RuleMasks). gather fold y (elementsFrom positionLimit fold 0 next (y .positions) (drop next s))) e₁
-                  ∙ ap (λ (y : Element). gather fold (gainedBy t y) X) same
-                  ∙ sym (gather-add fold t d o few room (g .heldO) (g .heldR) X)
-                  ∙ sym (ap (gather fold t) (got .turn))
-                  ∙ g .rest;
+              behind = omega (arith, m .ahead);
+              inside = m .inside;
+              last-is = sym (ap (lastPlace last) (got .spells)) ∙ g .last-is;
+              rest = λ p.
+                  ap (λ (y : RuleMasks). gather fold y p (elementsFrom positionLimit fold 0 next (y .positions) (drop next s))) e₁
+                  ∙ ap (λ (y : Element). gather fold (gainedBy t y) p X) same
+                  ∙ sym (gather-add fold t d o few room (g .heldO) (g .heldR) p X)
+                  ∙ sym (ap (gather fold t p) (got .turn))
+                  ∙ g .rest p;
             }
 
 -- ---- what `read_rule` found, read back into the model's
 
-pub elements-accepted : (fold : Bool) (s : List ℕ) (x : Outcome) → ReadsRule fold s x → (t : RuleMasks) → x ≡ Accepted t
-    → (es : List Model.Element) × (elementsFrom positionLimit fold 0 0 0 s ≡ accepted es) × (Accepted t ≡ gather fold start (accepted es))
-elements-accepted fold s x rx t e = go (elementsFrom positionLimit fold 0 0 0 s) refl
+pub elements-accepted : (fold : Bool) (s : List ℕ) (x : Outcome) → ReadsRule fold s x → (t : RuleMasks) (last : ℕ) → x ≡ Accepted t last
+    → (es : List Model.Element) × (elementsFrom positionLimit fold 0 0 0 s ≡ accepted es) × (Accepted t last ≡ gather fold start (lastPlace 0 (spelled fold s)) (accepted es))
+elements-accepted fold s x rx t last e = go (elementsFrom positionLimit fold 0 0 0 s) refl
   where
-    go : (y : Parsed) → elementsFrom positionLimit fold 0 0 0 s ≡ y → (es : List Model.Element) × (elementsFrom positionLimit fold 0 0 0 s ≡ accepted es) × (Accepted t ≡ gather fold start (accepted es))
-    go (accepted es) q = (es, q, sym e ∙ rx .is ∙ ap (gather fold start) q)
-    go (refused n p) q = let f : x ≡ Refused n p = rx .is ∙ ap (gather fold start) q in let z : _≡_ {A = ℕ} 0 1 = cc in absurd (omega arith)
+    go : (y : Parsed) → elementsFrom positionLimit fold 0 0 0 s ≡ y → (es : List Model.Element) × (elementsFrom positionLimit fold 0 0 0 s ≡ accepted es) × (Accepted t last ≡ gather fold start (lastPlace 0 (spelled fold s)) (accepted es))
+    go (accepted es) q = (es, q, sym e ∙ rx .is ∙ ap (gather fold start (lastPlace 0 (spelled fold s))) q)
+    go (refused n p) q = let f : x ≡ Refused n p = rx .is ∙ ap (gather fold start (lastPlace 0 (spelled fold s))) q in let z : _≡_ {A = ℕ} 0 1 = cc in absurd (omega arith)
 
 pub elements-refused : (fold : Bool) (s : List ℕ) (x : Outcome) → ReadsRule fold s x → (n p : ℕ) → x ≡ Refused n p → elementsFrom positionLimit fold 0 0 0 s ≡ refused n p
 elements-refused fold s x rx n p e = go (elementsFrom positionLimit fold 0 0 0 s) refl
   where
     go : (y : Parsed) → elementsFrom positionLimit fold 0 0 0 s ≡ y → elementsFrom positionLimit fold 0 0 0 s ≡ refused n p
-    go (accepted es) q = let f : x ≡ gather fold start (accepted es) = rx .is ∙ ap (gather fold start) q in let z : _≡_ {A = ℕ} 0 1 = cc in absurd (omega arith)
+    go (accepted es) q = let f : x ≡ gather fold start (lastPlace 0 (spelled fold s)) (accepted es) = rx .is ∙ ap (gather fold start (lastPlace 0 (spelled fold s))) q in let z : _≡_ {A = ℕ} 0 1 = cc in absurd (omega arith)
     go (refused m k) q =
-        let f : x ≡ Refused m k = rx .is ∙ ap (gather fold start) q in
+        let f : x ≡ Refused m k = rx .is ∙ ap (gather fold start (lastPlace 0 (spelled fold s))) q in
         let a : m ≡ n = cc in
         let b : k ≡ p = cc in
         q ∙ ap₂ refused a b

@@ -1,11 +1,12 @@
 -- What reading a rule makes of its elements: the count of their positions, and their masks. Assumes nothing.
 use mathlib.Core.Path.{_≡_}
 use mathlib.Core.Bool.{Bool}
-use mathlib.Core.List.{List}
+use mathlib.Core.List.{List, [], _∷_}
 use Prim.Native.Nat.{ℕ, _+_, _-_, _*_, _^_, _≤_}
 use lib.ListN.{length}
 use Rattle.model.specs.Occurrence.{Position}
 use Rattle.model.specs.RuleText.{positionLimit, positions}
+use Rattle.model.specs.Spelling.{Spelled, spelled}
 use Rattle.model.specs.NumberedAnswers.{Parsed, refused, accepted, elementsFrom}
 use Rattle.shift_and.specs.ForwardStep as Step
 use Rattle.shift_and.specs.Masks.{maskFrom}
@@ -79,20 +80,31 @@ start = record { positions = 0; optional = noBits; repeats = noBits }
 abbrev pub requiredOf : RuleMasks → ℕ
 requiredOf t = Step.shortest 256 (onesFrom (t .positions) 1) (number (t .optional))
 
+-- the place of the last element, and p if there is none
+abbrev pub lastPlace : ℕ → List Spelled → ℕ
+lastPlace p [] = p
+lastPlace p (s ∷ ss) = lastPlace (s .place) ss
+
 -- The answer of the rule's reader, case by case: the number and place of the refusal; or, above what t has, the count and the masks of the positions of
--- the elements.
-abbrev pub gather : (fold : Bool) → RuleMasks → Parsed → Outcome
-gather fold t (refused n p) = Refused n p
-gather fold t (accepted es) = Accepted (record {
+-- the elements, and the last one's place.
+abbrev pub gather : (fold : Bool) → RuleMasks → (last : ℕ) → Parsed → Outcome
+gather fold t last (refused n p) = Refused n p
+gather fold t last (accepted es) = Accepted (record {
   positions = t .positions + length (positions fold es);
   optional = wordsOf (number (t .optional) + maskFrom isOptional (positions fold es) * 2 ^ (t .positions + 1));
   repeats = wordsOf (number (t .repeats) + maskFrom isRepeating (positions fold es) * 2 ^ (t .positions + 1));
-})
+}) last
 
 abbrev pub FewPositions : Outcome → Type 0
 FewPositions (Refused n p) = Unit {0}
-FewPositions (Accepted t) = t .positions ≤ positionLimit
+FewPositions (Accepted t last) = t .positions ≤ positionLimit
+
+-- the last element stands in the rule
+abbrev pub LastInside : List ℕ → Outcome → Type 0
+LastInside s (Refused n p) = Unit {0}
+LastInside s (Accepted t last) = last ≤ length s
 
 pub record ReadsRule (fold : Bool) (s : List ℕ) (r : Outcome) : Type 0 where
-  pub is : r ≡ gather fold start (elementsFrom positionLimit fold 0 0 0 s)
+  pub is : r ≡ gather fold start (lastPlace 0 (spelled fold s)) (elementsFrom positionLimit fold 0 0 0 s)
   pub few : FewPositions r
+  pub inside : LastInside s r

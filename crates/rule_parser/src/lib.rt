@@ -1,12 +1,12 @@
-// From rule text to counts and masks (document 01, "Rule text" and rows 1 to 8 of "Numbered answers"): `prepare` gives a rule's answer. In a
-// mask bit 0 is the beginning, bit i is position i.
+// From rule text to counts and masks (document 01, "Rule text" and rows 1 to 8 and 16 of "Numbered answers"): `prepare` gives a rule's answer,
+// `prepare_stored` a stored rule's, by rows 1 to 8 alone. In a mask bit 0 is the beginning, bit i is position i.
 ghost use mathlib.Core.Path.{_≡_};
 ghost use Prim.Native.Nat.{_≤_};
 ghost use lib.ListN.{length};
 ghost use Rattle.model.specs.RuleText.{foldFlag, ruleLimit, positionLimit};
 ghost use Rattle.rule_element.specs.Reading.{KindFits};
 ghost use Rattle.rule_parser.specs.Gathering.{optionalOnes, repeatOnes, CountIs, optionalCount, repeatCount, Fits, gainedBy, requiredOf, ReadsRule};
-ghost use Rattle.rule_parser.specs.Preparing.{refusalOf, Prepares};
+ghost use Rattle.rule_parser.specs.Preparing.{refusalOf, refusedStored, ReadsStored, PreparesStored, Prepares};
 use limits::RULE_LIMIT;
 use rule_element::Element;
 use rule_element::ElementAnswer;
@@ -36,9 +36,9 @@ pub struct RuleMasks {
     pub repeats: Wide,
 }
 
-// What a rule's elements make; or the number and place of the leftmost fault.
+// What a rule's elements make, and the place of the last one; or the number and place of the leftmost fault.
 pub enum Outcome {
-    Accepted(RuleMasks),
+    Accepted(RuleMasks, usize),
     Refused(u32, u32),
 }
 
@@ -133,6 +133,7 @@ fn read_rule(rule: &[u8], fold: bool) -> Outcome
         repeats: none,
     };
     let mut at = 0;
+    let mut last = 0;
     while at < rule.len() {
         let e = rule_element::read_element(rule, at, fold, t.positions);
         let answer = e.answer;
@@ -143,11 +144,12 @@ fn read_rule(rule: &[u8], fold: bool) -> Outcome
             }
             ElementAnswer::Got(element, next) => {
                 t = add_element(t, element);
+                last = at;
                 at = next;
             }
         }
     }
-    Outcome::Accepted(t)
+    Outcome::Accepted(t, last)
 }
 
 // How many of all the positions are not optional.
@@ -176,38 +178,84 @@ pub fn refusal(number: u32, place: u32) -> Prepared
     }
 }
 
-// What a rule says, or with which number and place it is refused.
-pub fn prepare(rule: &[u8], fold: u32) -> Prepared
-    ensures { λ r. ⌜ Prepares fold (now (rule .entry)) r ⌝ }
+// A stored rule's answer, and the place of its last element: of a refused one 0.
+pub struct StoredRule {
+    pub prepared: Prepared,
+    pub last: usize,
+}
+
+// Nothing more is said of a refused one.
+fn refuse_stored(number: u32, place: u32) -> StoredRule
+    ensures { λ r. ⌜ r ≡ refusedStored number place ⌝ }
+{
+    StoredRule {
+        prepared: refusal(number, place),
+        last: 0,
+    }
+}
+
+// What a stored rule says, or with which number and place it is refused: rows 1 to 8.
+fn read_stored(rule: &[u8], fold: u32) -> StoredRule
+    ensures { λ r. ⌜ ReadsStored fold (now (rule .entry)) r ⌝ }
 {
     if rule.len() == 0 {
-        return refusal(answers::RULE_EMPTY, 0);
+        return refuse_stored(answers::RULE_EMPTY, 0);
     }
     if RULE_LIMIT < rule.len() {
-        return refusal(answers::RULE_LONG, RULE_LIMIT as u32);
+        return refuse_stored(answers::RULE_LONG, RULE_LIMIT as u32);
     }
     let f = folds(fold);
     let read = read_rule(rule, f);
     match read {
         Outcome::Refused(number, place) => {
-            return refusal(number, place);
+            return refuse_stored(number, place);
         }
-        Outcome::Accepted(masks) => {
+        Outcome::Accepted(masks, last) => {
             let m = required(masks);
             if m == 0 {
                 let end = rule.len() as u32;
-                return refusal(answers::ADMITS_EMPTY, end);
+                return refuse_stored(answers::ADMITS_EMPTY, end);
             }
             let optional = masks.optional;
             let repeats = masks.repeats;
-            return Prepared {
-                number: 0,
-                place: 0,
-                positions: masks.positions,
-                shortest: m,
-                optional: optional,
-                repeats: repeats,
+            return StoredRule {
+                prepared: Prepared {
+                    number: 0,
+                    place: 0,
+                    positions: masks.positions,
+                    shortest: m,
+                    optional: optional,
+                    repeats: repeats,
+                },
+                last: last,
             };
         }
     }
+}
+
+// What a stored rule says. Note 10's rewriter alone asks no more of a rule.
+pub fn prepare_stored(rule: &[u8], fold: u32) -> Prepared
+    ensures { λ r. ⌜ PreparesStored fold (now (rule .entry)) r ⌝ }
+{
+    let stored = read_stored(rule, fold);
+    stored.prepared
+}
+
+// What a rule says, or with which number and place it is refused: rows 1 to 8, then 16, by its first element and its last.
+pub fn prepare(rule: &[u8], fold: u32) -> Prepared
+    ensures { λ r. ⌜ Prepares fold (now (rule .entry)) r ⌝ }
+{
+    let stored = read_stored(rule, fold);
+    let p = stored.prepared;
+    if p.number != 0 {
+        return p;
+    }
+    if rule_gap::unequal_at(rule, 0) {
+        return refusal(answers::OUTER_GAP, 0);
+    }
+    let last = stored.last;
+    if rule_gap::unequal_at(rule, last) {
+        return refusal(answers::OUTER_GAP, last as u32);
+    }
+    p
 }

@@ -2,6 +2,7 @@
 use mathlib.Core.Path.{_≡_, refl, sym, ap, ap₂, _∙_}
 use mathlib.Core.List.{List, [], _∷_, _++_, append-assoc, reverse, reverse-cons, reverse-append}
 use mathlib.Core.Bool.{Bool, true, false, cond, _&&_}
+use mathlib.Core.Logic.{inl, inr}
 use Prim.Native.Nat.{ℕ, zero, suc, _+_, _-_, _*_, _%_, _^_, _≤_, _<_}
 use native.Mathlib.Omega.{arith}
 use native.Mathlib.Nat.{add-zero, zero-add, mul-assoc, add-mul, zero-mul, zero-div, div-eq-of-lt}
@@ -10,15 +11,14 @@ use lib.ListN.{length, getD, take, drop, replicate, length-append, length-revers
 use lib.Seq.{ext-getD, take-at, take-all, length-take-le}
 use lib.Bits.{bitOr, or-zero-r, or-shifted}
 use lib.Pow.{pow-add, pow-pos, shl-lt}
-use lib.Dec.{eqb, ltb}
 use borrow.Author.Tests.{lt-ltb}
 use borrow.Rule.Slice.PartMut.{midOf, putMid, mid-len, same-len-mid}
-use Rattle.model.specs.RefusalNumbers.{ruleEmpty, ruleLong, admitsEmpty}
-use Rattle.model.specs.Occurrence.{Position, oneIf, shortest}
+use Rattle.model.specs.Occurrence.{Position, oneIf}
 use Rattle.model.specs.RuleText as Model
 use Rattle.model.specs.RuleText.{foldFlag, ruleLimit, positionLimit, byte, any, class, gap, once, optional, position, positions, kindPositions, kindSet, isByte}
-use Rattle.model.specs.NumberedAnswers.{Parsed, refused, accepted, addElement, elementsFrom, orEmpty, parse, positionsBy, rulePositions}
-use Rattle.model.proofs.Refusals.{refusal-row}
+use Rattle.model.specs.NumberedAnswers.{Parsed, refused, accepted, elementsFrom, parse, positionsBy, rulePositions}
+use Rattle.model.proofs.Accepted.{parsed-ok, stored-accepted}
+use Rattle.model.proofs.Refusals.{rule-refusal}
 use Rattle.shift_and.specs.Masks.{maskFrom, mask, admitsMask}
 use Rattle.shift_and.proofs.MaskLaws.{mask-append, mask-fits}
 use Rattle.shift_and_wide.specs.Wides.{wordOf, onesFrom}
@@ -32,7 +32,8 @@ use Rattle.rule_element.specs.Reading.{kindOf, setOf, sizeOf, KindFits, Element
 use Rattle.rule_parser.specs.Preparing.{preparedBy, prepared}
 use Rattle.rule_table.specs.Tables.{entriesFrom, planeOf, tableOf, rowOf, Cleared, gained, admitsBy, SlotsFit, slotBits, Placed, Counted, PlaneFillable, PlaneFilled, Fillable, Filled}
 use Rattle.rule_parser.proofs.ElementMasks.{kind-length}
-use Rattle.rule_parser.proofs.RuleLaws.{elements-end, element-refused, Found, moved, element-found, placedOn, placed-lt, placed-mask}
+use Rattle.rule_element.proofs.RuleReading.{Found, moved, element-found, elements-over, elements-never, elements-after}
+use Rattle.rule_parser.proofs.RuleLaws.{placedOn, placed-lt, placed-mask}
 
 -- ---- lists whose positions all have a property, or none has it
 
@@ -176,35 +177,6 @@ pub plane-is : (j : ℕ) (ps : List Position) (t : List ℕ) → length t ≡ 25
 plane-is j ps t l h =
     ext-getD 0 t (planeOf j ps) (l ∙ sym (long-entries j ps 256 0)) λ i k. let m : i < 256 = omega arith in h i m ∙ sym (entry-at j ps 256 0 i m ∙ ap (λ (c : ℕ). wordOf j (admitsMask ps c)) (zero-add i))
 
--- ---- the elements that are left to read, of an accepted rule
-
-clash : {A : Type 0} {n p : ℕ} {es : List Model.Element} → refused n p ≡ accepted es → A
-clash q = let y : _≡_ {A = ℕ} 0 1 = cc in absurd (omega arith)
-
-accepted-inj : {es fs : List Model.Element} → accepted es ≡ accepted fs → es ≡ fs
-accepted-inj e = cc
-
-module _ (f : Bool) (s : List ℕ) (at used : ℕ) (left : List Model.Element) (rest : elementsFrom positionLimit f 0 at used (drop at s) ≡ accepted left) where
-  pub elements-over : length s ≤ at → left ≡ []
-  elements-over h = accepted-inj (sym rest ∙ elements-end f used s at h)
-
-  module _ (h : at < length s) (r : ElementResult) (rc : ReadsElement f used s at r) where
-    -- an accepted rule has no element that is refused
-    pub elements-never : {A : Type 0} (k : ℕ) → r .answer ≡ Refused k → A
-    elements-never k e = clash (sym (element-refused f used s at h r rc k e) ∙ rest)
-
-    module _ (element : Element) (to : ℕ) (e : r .answer ≡ Got element to) where
-      -- one is read, and these stand after it
-      pub elements-after : let x = element-found f used s at h r rc element to e in
-          (fs : List Model.Element) × (elementsFrom positionLimit f 0 to (used + sizeOf (element .kind)) (drop to s) ≡ accepted fs) × (record { kind = x .kind; often = x .often } ∷ fs ≡ left)
-      elements-after = go (elementsFrom positionLimit f 0 to (used + sizeOf (element .kind)) (drop to s)) refl
-        where
-          go : let x = element-found f used s at h r rc element to e in
-              (y : Parsed) → elementsFrom positionLimit f 0 to (used + sizeOf (element .kind)) (drop to s) ≡ y
-              → (fs : List Model.Element) × (elementsFrom positionLimit f 0 to (used + sizeOf (element .kind)) (drop to s) ≡ accepted fs) × (record { kind = x .kind; often = x .often } ∷ fs ≡ left)
-          go (accepted fs) q = let x = element-found f used s at h r rc element to e in (fs, q, accepted-inj (sym (x .turn ∙ ap (addElement (record { kind = x .kind; often = x .often })) q) ∙ rest))
-          go (refused n p) q = let x = element-found f used s at h r rc element to e in clash (sym (x .turn ∙ ap (addElement (record { kind = x .kind; often = x .often })) q) ∙ rest)
-
 -- ---- the loop
 
 pub record Filling (fold : Bool) (s : List ℕ) (all : List Position) (reversed : Bool) (total word : ℕ) (plane : List ℕ) (at used : ℕ) : Type 0 where
@@ -225,28 +197,11 @@ pub record Accepts (fold : Bool) (s : List ℕ) : Type 0 where
 pub accepts : (fold : Bool) (s : List ℕ) → preparedBy fold (parse fold s) .number ≡ 0 → Accepts fold s
 accepts fold s z = go (parse fold s) refl
   where
-    inner : (es : List Model.Element) (x : Parsed) → orEmpty fold s x ≡ accepted es → x ≡ accepted es
-    inner es (refused n p) q = clash q
-    inner es (accepted fs) q = by (eqb (shortest (positions fold fs)) 0) q
-      where
-        by : (b : Bool) → cond b (refused admitsEmpty (length s)) (accepted fs) ≡ accepted es → accepted fs ≡ accepted es
-        by true q = clash q
-        by false q = q
-
-    reads-of : (es : List Model.Element) → parse fold s ≡ accepted es → elementsFrom positionLimit fold 0 0 0 s ≡ accepted es
-    reads-of es q = one (eqb (length s) 0) (ltb ruleLimit (length s)) q
-      where
-        one : (b d : Bool) → cond b (refused ruleEmpty 0) (cond d (refused ruleLong ruleLimit) (orEmpty fold s (elementsFrom positionLimit fold 0 0 0 s))) ≡ accepted es → elementsFrom positionLimit fold 0 0 0 s ≡ accepted es
-        one true d q = clash q
-        one false true q = clash q
-        one false false q = inner es (elementsFrom positionLimit fold 0 0 0 s) q
-
     go : (x : Parsed) → parse fold s ≡ x → Accepts fold s
-    go (accepted es) q = record { elements = es; parses = q; reads = reads-of es q }
+    go (accepted es) q = record { elements = es; parses = q; reads = parsed-ok ruleLimit positionLimit fold s es (stored-accepted fold s es q .0) .reads }
     go (refused n p) q =
-        let l = refusal-row positionLimit fold ruleLimit s n p q .0 in
         let e : n ≡ 0 = sym (ap (λ (y : Parsed). preparedBy fold y .number) q) ∙ z in
-        absurd (omega arith)
+        elim (rule-refusal fold s n p q) [ inl r ↦ let l = r .0 in absurd (omega arith) | inr r ↦ absurd (omega arith) ]
 
 module _ (flag : ℕ) (s : List ℕ) (total : ℕ) (h : Counted flag s total) where
   pub counted-rule : Accepts (foldFlag flag) s

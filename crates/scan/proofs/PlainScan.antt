@@ -305,7 +305,7 @@ module _ (flag : ℕ) (rule codes sets s : List ℕ) (r : Opened) (s′ : List �
   by-rule : (x : Parsed) → parseWith (foldFlag flag) rule codes sets ≡ x → r ≡ answerBy flag (length s) x → s′ ≡ leftBy flag codes sets s x → r .number ≡ 0 → OpenedWith flag rule codes sets s′
   by-rule (turned-down n p) e a l z =
       let q : n ≡ 0 = sym (ap (λ (o : Opened). o .number) a) ∙ z in
-      elim (coded-refusal (foldFlag flag) rule codes sets n p e) [ inl r ↦ let l = r .0 in absurd (omega arith) | inr r ↦ let l = r .0 in absurd (omega arith) ]
+      elim (coded-refusal (foldFlag flag) rule codes sets n p e) [ inl (inl r) ↦ let l = r .0 in absurd (omega arith) | inl (inr r) ↦ absurd (omega arith) | inr r ↦ let l = r .0 in absurd (omega arith) ]
   by-rule (accepted es) e a l z = by-length (eqb (length s) scanLength) es e a l z
 
   pub opened-with : OpenIs flag rule codes sets s r s′ → r .number ≡ 0 → OpenedWith flag rule codes sets s′

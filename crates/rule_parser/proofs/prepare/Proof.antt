@@ -1,14 +1,26 @@
--- `rule_parser::prepare` meets its contract.
+-- `rule_parser::prepare` meets its contract. Its laws are in this crate's `proofs/`; `search LAW` finds a law's premises in `c`. Assumes nothing.
 use borrow.Author.Needs.{needs}
-use Rattle.rule_parser.proofs.PrepareLaws.{prepare-none, prepare-long, prepare-refused, few-positions, prepare-bare, prepare-good}
+use Rattle.rule_parser.proofs.OuterGaps.{stored-refused, first-gap, last-gap, no-outer}
 use Rattle.rule_parser.proofs.prepare.Statement.{statement}
 use Rattle.rule_parser.proofs.prepare.Tie as tie
+
+read-stored-requires : tie.Need-read-stored-requires
+read-stored-requires c κs = search needs
+
+returns : tie.Need-returns
+returns c = search stored-refused
+
+unequal-at-requires : tie.Need-unequal-at-requires
+unequal-at-requires c κs = search needs
 
 refusal-requires : tie.Need-refusal-requires
 refusal-requires c κs = search needs
 
-returns : tie.Need-returns
-returns c = search prepare-none
+returns-2 : tie.Need-returns-2
+returns-2 c = search first-gap
+
+unequal-at-requires-2 : tie.Need-unequal-at-requires-2
+unequal-at-requires-2 c κs = search needs
 
 cast-refusal : tie.Need-cast-refusal
 cast-refusal c = search needs
@@ -16,59 +28,23 @@ cast-refusal c = search needs
 refusal-requires-2 : tie.Need-refusal-requires-2
 refusal-requires-2 c κs = search needs
 
-returns-2 : tie.Need-returns-2
-returns-2 c = search prepare-long
-
-folds-requires : tie.Need-folds-requires
-folds-requires c κs = search needs
-
-read-rule-requires : tie.Need-read-rule-requires
-read-rule-requires c κs = search needs
-
-enum-known-read : tie.Need-enum-known-read
-enum-known-read c = search needs
-
-refusal-requires-3 : tie.Need-refusal-requires-3
-refusal-requires-3 c κs = search needs
-
 returns-3 : tie.Need-returns-3
-returns-3 c = search prepare-refused
-
-enum-known-read-2 : tie.Need-enum-known-read-2
-enum-known-read-2 c = search needs
-
-required-requires : tie.Need-required-requires
-required-requires c κs = search few-positions
-
-cast-end : tie.Need-cast-end
-cast-end c = search needs
-
-refusal-requires-4 : tie.Need-refusal-requires-4
-refusal-requires-4 c κs = search needs
+returns-3 c = search last-gap
 
 returns-4 : tie.Need-returns-4
-returns-4 c = search prepare-bare
-
-returns-5 : tie.Need-returns-5
-returns-5 c = search prepare-good
+returns-4 c = search no-outer
 
 pub prepare-spec : {M : Type 1} → statement M
 prepare-spec =
     tie.close
     (tie.spec
-    refusal-requires
+    read-stored-requires
     returns
+    unequal-at-requires
+    refusal-requires
+    returns-2
+    unequal-at-requires-2
     cast-refusal
     refusal-requires-2
-    returns-2
-    folds-requires
-    read-rule-requires
-    enum-known-read
-    refusal-requires-3
     returns-3
-    enum-known-read-2
-    required-requires
-    cast-end
-    refusal-requires-4
-    returns-4
-    returns-5)
+    returns-4)

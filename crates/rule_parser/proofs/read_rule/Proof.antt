@@ -8,10 +8,10 @@ use Rattle.rule_parser.proofs.read_rule.Statement.{statement}
 use Rattle.rule_parser.proofs.read_rule.Tie as tie
 
 abbrev Inv-loop : tie.InvT-loop
-Inv-loop rule fold t₀ at₀ t at = Parsing fold rule t at
+Inv-loop rule fold t₀ at₀ last₀ t at last = Parsing fold rule t at last
 
 abbrev μ-loop : tie.MeasureT-loop
-μ-loop rule fold t₀ at₀ t at = length rule - at
+μ-loop rule fold t₀ at₀ last₀ t at last = length rule - at
 
 no-bits-requires : tie.Need-no-bits-requires Inv-loop μ-loop
 no-bits-requires c κs = search needs
@@ -40,7 +40,7 @@ add-element-requires c κs = search next-fits
 loop-less : tie.Need-loop-less Inv-loop μ-loop
 loop-less c =
     let l = c .before .before .before .before in
-    let m = next-ahead _ _ _ _ (l .before .before .loop .inv) (l .before .loop-test .taken) _ (l .read-element .ensures) _ _ (c .before .before .answer2 .given .1) in
+    let m = next-ahead _ _ _ _ _ (l .before .before .loop .inv) (l .before .loop-test .taken) _ (l .read-element .ensures) _ _ (c .before .before .answer2 .given .1) in
     omega arith
 
 loop-again : tie.Need-loop-again Inv-loop μ-loop

@@ -1,10 +1,10 @@
--- `decoder::copy_tail` meets its contract.
-use Rattle.decoder.proofs.DecodeLaws.{TailInvariant, tail-begun, tail-turn, tail-over}
+-- `text_writer::copy_tail` meets its contract.
+use Rattle.text_writer.proofs.WriteLaws.{TailInvariant, tail-begun, tail-turn, tail-over}
 use Prim.Native.Nat.{_-_}
 use lib.ListN.{length}
 use borrow.Author.Needs.{needs}
-use Rattle.decoder.proofs.copy_tail.Statement.{statement}
-use Rattle.decoder.proofs.copy_tail.Tie as tie
+use Rattle.text_writer.proofs.copy_tail.Statement.{statement}
+use Rattle.text_writer.proofs.copy_tail.Tie as tie
 
 abbrev Inv-loop : tie.InvT-loop
 Inv-loop raw from out₀ at i₀ end₀ out i end = TailInvariant raw from out₀ at out i end

@@ -1,0 +1,7 @@
+-- Laws on plain values, bottom up.
+pub mod MissedPositions
+pub mod OuterLaws
+pub mod OneElement
+pub mod Spellings
+pub mod Rereading
+pub mod Retired

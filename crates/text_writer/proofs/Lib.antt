@@ -1,0 +1,2 @@
+-- Laws on plain values; each function's own file only cites them.
+pub mod WriteLaws

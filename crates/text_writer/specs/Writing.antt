@@ -1,0 +1,16 @@
+-- What is written to a buffer, and where it ends. Assumes nothing.
+use mathlib.Core.Path.{_≡_}
+use mathlib.Core.List.{List}
+use Prim.Native.Nat.{ℕ, _+_}
+use lib.ListN.{length, drop, replicate}
+use lib.Seq.{sets}
+
+-- `copy_tail`: where the bytes from `from` on end, and the buffer
+pub record TailCopied (raw : List ℕ) (from : ℕ) (out : List ℕ) (at r : ℕ) (out′ : List ℕ) : Type 0 where
+  pub count : r ≡ at + length (drop from raw)
+  pub list : out′ ≡ sets out at (drop from raw)
+
+-- `fill`: where n times the byte end, and the buffer
+pub record Filled (out : List ℕ) (at byte n r : ℕ) (out′ : List ℕ) : Type 0 where
+  pub count : r ≡ at + n
+  pub list : out′ ≡ sets out at (replicate n byte)
