@@ -16,7 +16,7 @@ ARCHIVE = target/staticlib/libjazhuppe.a
 LISTER = target/bin/lister
 PROGRAM = build/jazhuppe
 HEADER = include/jazhuppe.h
-TESTS = $(addprefix build/test/, marked refusals scan_values limits differential)
+TESTS = $(addprefix build/test/, marked refusals scan_values limits differential sqlite)
 VERSION = $(shell sed -n 's/^\#define JAZHUPPE_VERSION "\(.*\)"/\1/p' $(HEADER))
 INTO = $(DESTDIR)$(PREFIX)
 

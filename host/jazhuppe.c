@@ -23,8 +23,8 @@ enum { FOUND = 0, NONE = 1, TROUBLE = 2 };
 enum { PIECE = 4096 };
 static const uint64_t mebibyte = 1024 * 1024;
 
-/* What is printed: of each occurrence, or the rule itself, rewritten. */
-typedef enum { ENDS, STARTS, TEXTS, REWRITTEN } output;
+/* What is printed: of each occurrence, or the rule itself, rewritten, or what a LIKE pattern comes to. */
+typedef enum { ENDS, STARTS, TEXTS, REWRITTEN, LIKE } output;
 
 /* A rule, and the codes that a plan is read with. */
 typedef struct {
@@ -44,7 +44,8 @@ typedef struct {
 } plan;
 
 static const char usage_lines[] = "usage: jazhuppe [-i] [-c CODE=SET]... [-e | -s | -t] RULE [FILE...]\n"
-                                  "       jazhuppe [-i] --rewrite RULE\n";
+                                  "       jazhuppe [-i] --rewrite RULE\n"
+                                  "       jazhuppe --like PATTERN [NAME...]\n";
 
 static const char help_text[] =
     "Finds where a seat rule occurs in seating plans, after references such as &amp;\n"
@@ -61,19 +62,23 @@ static const char help_text[] =
     "             -c '?=[0-9]'; up to 8 times\n"
     "  --rewrite  print a stored RULE with the gaps {a,b}, a < b, at its front and back\n"
     "             turned into a dots each, so that it is no longer refused\n"
-    "  --         no more options: RULE may begin with -\n"
+    "  --like     print the rule for a PATTERN of SQL's LIKE; or, of the NAMEs, each that\n"
+    "             the pattern accepts: % is any bytes, _ one byte, and \\ before %, _ or \\\n"
+    "             takes that byte as it is\n"
+    "  --         no more options: RULE or PATTERN may begin with -\n"
     "  --help     print this and exit\n"
     "  --version  print the version and exit\n"
     "\n"
     "Places count decoded bytes: a start from 0, an end up to and including the last\n"
     "byte. Each is printed on a line of its own, after FILE: where there are several.\n"
-    "In TEXT a control byte or \\ is printed as \\n, \\t, \\r, \\\\ or \\xHH.\n"
+    "In TEXT and NAME a control byte or \\ is printed as \\n, \\t, \\r, \\\\ or \\xHH.\n"
     "\n"
     "In a rule . is any byte, [a-z] [^a-z] a class, {a,b} a gap of a to b bytes; ? + *\n"
     "after an element make it optional, repeatable, or both; \\ takes a mark as it is.\n"
     "A rule may not begin or end with a gap with a < b.\n"
     "\n"
-    "Exit status: 0 something was found or rewritten, 1 nothing found, 2 trouble.\n";
+    "Exit status: 0 something was found, rewritten, imported or accepted, 1 nothing,\n"
+    "2 trouble.\n";
 
 /* The requirement's words for each refusal, of 15 those that a command line can come to; some numbers have none. */
 static const char *refusal_words(uint32_t number)
@@ -91,6 +96,7 @@ static const char *refusal_words(uint32_t number)
         [JAZHUPPE_TOO_MUCH] = "more than 4294967295 bytes",
         [JAZHUPPE_IMPOSSIBLE] = "impossible scan value",
         [JAZHUPPE_FINISHED] = "scan already finished",
+        [JAZHUPPE_LIKE] = "\\ last, or before another byte than %, _ or \\",
         [JAZHUPPE_CODES] = "a code named twice, a SET with a code in it, or a position of the rule that holds codes alone",
         [JAZHUPPE_OUTER_GAP] = "the rule begins or ends with a gap {a,b} with a < b",
     };
@@ -198,6 +204,16 @@ static void refused_rewriting(void)
 {
     fprintf(stderr, "jazhuppe: refused %d at %d: the rewritten rule is over 1,023 bytes\n", JAZHUPPE_RULE_LONG,
             JAZHUPPE_RULE_MOST);
+}
+
+/* 14 and 1 have their places in the pattern; 2, 7 and 8 in a text that the refusal keeps back. No argument comes to 10. */
+static void refused_import(const rule *pattern, uint32_t number, uint32_t place)
+{
+    if (number == JAZHUPPE_LIKE || number == JAZHUPPE_RULE_EMPTY)
+        refused_rule(pattern, number, place);
+    else
+        fprintf(stderr, "jazhuppe: refused %" PRIu32 " at %" PRIu32 " of the imported rule: %s\n", number, place,
+                refusal_words(number));
 }
 
 /* That has no place in the rule. */
@@ -681,6 +697,45 @@ static int rewrite(const rule *r)
     return FOUND;
 }
 
+/* Prints a name that the imported rule covers. */
+static int accept_name(const uint8_t *text, size_t length, const char *name)
+{
+    size_t bytes = strlen(name);
+    jazhuppe_covered c = jazhuppe_covers(text, length, 0, (const uint8_t *)name, bytes);
+
+    if (c.number != 0) {
+        trouble("NAME", refusal_words(c.number));
+        return TROUBLE;
+    }
+    if (c.covered == 0)
+        return NONE;
+    for (size_t i = 0; i < bytes; i++)
+        print_text_byte((uint8_t)name[i]);
+    end_line();
+    return FOUND;
+}
+
+/* Prints the rule for a LIKE pattern; or, of names, those that the pattern accepts. */
+static int like(const rule *pattern, char **names, int count)
+{
+    uint8_t text[JAZHUPPE_IMPORT_BUFFER];
+    jazhuppe_text t = jazhuppe_import_like(pattern->bytes, pattern->length, text, sizeof text);
+    int status = NONE;
+
+    if (t.number != 0) {
+        refused_import(pattern, t.number, t.place);
+        return TROUBLE;
+    }
+    if (count == 0) {
+        fwrite(text, 1, t.length, stdout);
+        end_line();
+        return FOUND;
+    }
+    for (int i = 0; i < count && write_error == 0; i++)
+        status = both(status, accept_name(text, t.length, names[i]));
+    return status;
+}
+
 int main(int argc, char **argv)
 {
     rule r = rule_of("");
@@ -698,11 +753,13 @@ int main(int argc, char **argv)
             return print_version();
         if (strcmp(argv[at], "--rewrite") == 0)
             printed = REWRITTEN;
+        else if (strcmp(argv[at], "--like") == 0)
+            printed = LIKE;
         else if (!take_letters(argv, &at, &r, &printed))
             return TROUBLE;
     }
     if (at == argc)
-        return misused("RULE is missing", "");
+        return misused(printed == LIKE ? "PATTERN is missing" : "RULE is missing", "");
     r.bytes = (const uint8_t *)argv[at];
     r.length = strlen(argv[at]);
     signal(SIGPIPE, SIG_IGN);
@@ -710,6 +767,10 @@ int main(int argc, char **argv)
         return misused("--rewrite takes no FILE and no -c", "");
     if (printed == REWRITTEN)
         return closed(rewrite(&r));
+    if (printed == LIKE && (r.fold != 0 || r.codes_count > 0))
+        return misused("--like takes no -i and no -c", "");
+    if (printed == LIKE)
+        return closed(like(&r, argv + at + 1, argc - at - 1));
     if (!accepted(&r))
         return TROUBLE;
     progress.wanted = isatty(STDERR_FILENO) != 0;

@@ -6,12 +6,15 @@
  *                      the ends of occurrences, with the same memory for a plan of any length;
  *   the window search  jazhuppe_decode the raw plan, then jazhuppe_search its decoded text: the starts.
  *
+ * Beside them jazhuppe_covers says whether a rule covers a seat name whole.
+ *
  * RULE. 1 to 1,023 bytes, never decoded. Any byte but a mark (. [ ] { } ? + * \) stands for itself; \ before a mark, ^ or -
  * gives that byte; . is any byte; [..] is a class of bytes and ranges lo-hi, turned round by a first ^; {a,b} is a gap
  * of a to b bytes of any kind; ? + * after an element other than a gap make it optional, repeatable, or both. A gap makes b
  * positions, every other element one; a rule has at most 255. With fold set (any number but 0) letters of A to Z and a to z
  * stand for both cases. The first and the last element may not be a gap with a < b, which gives crowds of starts or ends for
- * one seat; a stored rule goes through jazhuppe_rewrite, whose text is accepted with the same fold flag.
+ * one seat; a stored rule goes through jazhuppe_rewrite, whose text is accepted with the same fold flag. A pattern of SQL's
+ * LIKE goes through jazhuppe_import_like, whose text is accepted with any.
  *
  * TEXT. Places count decoded bytes: a start is counted from 0, an end is the count of bytes up to and including the
  * occurrence's last. A reference (&amp; &lt; &gt; &apos; &quot; &#38; &#x26; of at most 32 bytes, leading zeros included) is
@@ -31,7 +34,7 @@
  *   - nobody else touches the slices until the call returns;
  *   - a pointer may be NULL where its length is 0.
  *
- * Nothing else is asked: whatever the bytes and numbers in them, a call returns a finished result or one of the fourteen
+ * Nothing else is asked: whatever the bytes and numbers in them, a call returns a finished result or one of the fifteen
  * refusals below. A call keeps no pointer, allocates nothing and has no other state than what it is lent, so calls on
  * different slices may run at the same time.
  *
@@ -52,10 +55,11 @@ extern "C" {
 #define JAZHUPPE_VERSION "1.0.0"
 
 /* The refusals. 1 and 2 come first, then the leftmost of 3 to 7 (an element's own fault before 7), then 8, then 16.
- * An opening checks the rule, then 15, then 11; a call on a whole text the rule, then 15, 10, 9; a scan call 11, 12, 10, 9;
- * a rewriting 9, then the rule by 1 to 8 alone, then its finished text by 2. No call gives 13 or 14. */
-#define JAZHUPPE_RULE_EMPTY 1    /* rule of length 0; place 0 */
-#define JAZHUPPE_RULE_LONG 2     /* rule, or a rewriting's finished text, over 1,023 bytes; place 1,023 */
+ * An opening checks the rule, then 15, then 11; a call on a whole text or name the rule, then 15, 10, 9; a scan call
+ * 11, 12, 10, 9; a rewriting 9, then the rule by 1 to 8 alone, then its finished text by 2; an import 9, 10, 14, then its
+ * finished text by 1, 2, 7, 8, whose places count there. No call gives 13. */
+#define JAZHUPPE_RULE_EMPTY 1    /* rule, or an import's pattern, of length 0; place 0 */
+#define JAZHUPPE_RULE_LONG 2     /* rule, or the finished text of a rewriting or an import, over 1,023 bytes; place 1,023 */
 #define JAZHUPPE_CLASS 3         /* class unclosed, empty, with a reversed range, a bad \ or misplaced -, or left with
                                     no byte; place of the [ */
 #define JAZHUPPE_GAP 4           /* gap not of the given form, a > b, or b = 0; place of the { */
@@ -64,9 +68,11 @@ extern "C" {
 #define JAZHUPPE_POSITIONS 7     /* an element takes the positions past 255; place of the element */
 #define JAZHUPPE_ADMITS_EMPTY 8  /* the empty string is admitted: every position is optional; place = rule length */
 #define JAZHUPPE_TOO_SHORT 9     /* list or buffer too short */
-#define JAZHUPPE_TOO_MUCH 10     /* more than 4,294,967,295 bytes in the text, or in all the pieces */
+#define JAZHUPPE_TOO_MUCH 10     /* more than 4,294,967,295 bytes in the text, name or pattern, or in all the pieces */
 #define JAZHUPPE_IMPOSSIBLE 11   /* impossible scan value */
 #define JAZHUPPE_FINISHED 12     /* scan already finished */
+#define JAZHUPPE_LIKE 14         /* in an import: a \ last, or before another byte than %, _ or \ ; place of the first
+                                    such \ in the pattern */
 #define JAZHUPPE_CODES 15        /* more than 8 codes, sets not of 32 bytes for each code, a code named twice, a set
                                     empty or with a code in it, or a position whose set, folded, is of codes alone;
                                     place 0 */
@@ -77,7 +83,7 @@ extern "C" {
 #define JAZHUPPE_POSITIONS_MOST 255      /* positions of a rule */
 #define JAZHUPPE_CODES_MOST 8            /* codes of an opening or a search */
 #define JAZHUPPE_SET_BYTES 32            /* bytes of a code's set */
-#define JAZHUPPE_TEXT_MOST 4294967295u   /* bytes of a text, or of all the pieces of a plan */
+#define JAZHUPPE_TEXT_MOST 4294967295u   /* bytes of a text, a name or a pattern, or of all the pieces of a plan */
 #define JAZHUPPE_SCAN_WORDS 1045         /* the length of a scan value */
 #define JAZHUPPE_HELD_MOST 31            /* bytes that a scan holds back between pieces */
 
@@ -87,6 +93,9 @@ extern "C" {
 
 /* The bytes that the buffer of a rewriting needs, however short the rule. */
 #define JAZHUPPE_REWRITE_BUFFER JAZHUPPE_RULE_MOST
+
+/* And that of an import, however short the pattern. */
+#define JAZHUPPE_IMPORT_BUFFER JAZHUPPE_RULE_MOST
 
 /* What a rule comes to. */
 typedef struct {
@@ -107,9 +116,16 @@ typedef struct {
 /* What a call that writes a rule's text comes to. */
 typedef struct {
     uint32_t number;  /* 0, or the refusal */
-    uint32_t place;   /* where in the rule, or in the finished text */
+    uint32_t place;   /* where in the rule, in the finished text, or, for 14, in the pattern */
     uint32_t length;  /* bytes written */
 } jazhuppe_text;
+
+/* What a rule and a name come to. */
+typedef struct {
+    uint32_t number;   /* 0, or the refusal */
+    uint32_t place;    /* where in the rule */
+    uint32_t covered;  /* 1 if the rule covers the name, else 0 */
+} jazhuppe_covered;
 
 /* A part of a text: its bytes from `from` up to, but without, `to`. */
 typedef struct {
@@ -126,6 +142,12 @@ jazhuppe_prepared jazhuppe_prepare(const uint8_t *rule, size_t rule_len, uint32_
  * is copied. The buffer needs JAZHUPPE_REWRITE_BUFFER bytes.
  * Refusals 9, 1 to 8, then 2 where the finished text is over 1,023 bytes. */
 jazhuppe_text jazhuppe_rewrite(const uint8_t *rule, size_t rule_len, uint32_t fold, uint8_t *out, size_t out_len);
+
+/* Turns a pattern of SQL's LIKE into a rule that, fold off, covers exactly the names that LIKE accepts, case respected:
+ * % (any bytes) becomes .* and _ (one byte) a dot; \ before %, _ or another \ takes that as a plain byte; a plain byte that
+ * is a mark gains a \, and every other stays. The buffer needs JAZHUPPE_IMPORT_BUFFER bytes.
+ * Refusals 9, 10, 14 wherever in the pattern, then of the finished text 1, 2, 7, and 8 where there is nothing but %. */
+jazhuppe_text jazhuppe_import_like(const uint8_t *pattern, size_t pattern_len, uint8_t *out, size_t out_len);
 
 /* Opens a scan: writes the scan value, whole, whatever stood there. Its feeds read the plan with these codes.
  * Refusals 1 to 8, 16, 15, then 11 where scan_len is not JAZHUPPE_SCAN_WORDS. */
@@ -158,6 +180,11 @@ jazhuppe_answer jazhuppe_search(const uint8_t *rule, size_t rule_len, uint32_t f
  * text_len where the rule is refused, the text is over its limit, the start is past the text, or nothing starts there. */
 jazhuppe_span jazhuppe_show(const uint8_t *rule, size_t rule_len, uint32_t fold, const uint8_t *text, size_t text_len,
                             size_t start);
+
+/* Says whether a rule covers a name: whether all of the name, from its first byte to its last, is one occurrence. The name
+ * is taken as it comes, with nothing decoded, and it takes no codes. No rule covers the empty name.
+ * Refusals 1 to 8, 16, then 10. */
+jazhuppe_covered jazhuppe_covers(const uint8_t *rule, size_t rule_len, uint32_t fold, const uint8_t *name, size_t name_len);
 
 /* THE SCAN VALUE is JAZHUPPE_SCAN_WORDS numbers. It may be copied, kept and taken up again, in another process too:
  *

@@ -36,12 +36,15 @@ try "limits" build/test/limits
 try "differential, watched" watched build/test/differential 2 300
 try "differential" build/test/differential
 try "written cases" build/test/differential - host/test/cases.txt
+try "LIKE as SQLite has it" sh host/test/sqlite.sh
 try "lister" sh host/test/lister.sh
 for option in -e -s -t; do
     try "program, watched, $option" watched "${PROGRAM:-build/jazhuppe}" "$option" 'Row A&B [0-9]+' host/sample.xml
     try "program, watched, $option -c" watched "${PROGRAM:-build/jazhuppe}" "$option" -c '1=[02-9]' 'Row A&B [2-9]+' host/sample.xml
 done
 try "program, watched, --rewrite" watched "${PROGRAM:-build/jazhuppe}" --rewrite '{0,9}{1,2}Row A&B [0-9]+{0,9}'
+try "program, watched, --like" watched "${PROGRAM:-build/jazhuppe}" --like 'Row A&B \_%[_]'
+try "program, watched, --like with names" watched "${PROGRAM:-build/jazhuppe}" --like 'Row A&B %_' '' 'Row A&B 12' 'Row A&B '
 try "command line" sh host/test/cli.sh
 [ "$failed" -eq 0 ] && echo "host tests: all ok"
 exit "$failed"

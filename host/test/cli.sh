@@ -117,8 +117,32 @@ holds "what is rewritten is taken" rewritten '{1,9}&B [0-9]{0,9}' '9
 20
 31'
 
+# LIKE patterns, and names.
+expect "--like, the rule" 0 'Row A&B .*.\n' '' --like 'Row A&B %_'
+expect "--like, what a backslash takes" 0 '%_\\\\.*\n' '' --like '\%\_\\%'
+expect "--like, marks" 0 '\\.\\[a-z\\]\\{1,2\\}\\?\\+\\*^\n' '' --like '.[a-z]{1,2}?+*^'
+expect "--like, bytes of UTF-8" 0 'Caf\0303\0251 .\n' '' --like 'Café _'
+expect "--like of a pattern that begins with -" 0 '-x.*\n' '' --like -- '-x%'
+expect "--like, names" 0 'Row A&B 12\nRow A&B 3\n' '' \
+    --like 'Row A&B %_' 'Row A&B 12' 'Row A&B ' 'row A&B 12' '' 'Row A&amp;B 12' 'xRow A&B 12' 'Row A&B 3'
+expect "--like, no name" 1 '' '' --like 'Row _' 'Row' 'Row 12' 'ROW 1'
+expect "--like, the empty name" 1 '' '' --like '%_' ''
+expect "--like, a name twice" 0 'ab\nab\n' '' --like 'a%' ab ab
+expect "--like, control bytes in a name" 0 'x\\ta\\\\b\\n\\x01y\n' '' --like 'x%y' "$(cat control)"
+expect "--like, names that look like options" 0 '-i\n--\n-c\n' '' --like -- '-%' -i -- -c
+expect "--like, the last counts" 0 'Row.*\n' '' -s --rewrite -t --like 'Row%'
+expect "-t after --like, the last counts" 0 'three:0:Row\nthree:11:Row\nthree:22:Row\n' '' --like -t 'Row' three
+expect "--rewrite after --like, the last counts" 0 'Row%\n' '' --like --rewrite 'Row%{0,9}'
+imported() {
+    "$program" -e "$("$program" --like "$1")" three > out && [ "$(cat out)" = "$2" ]
+}
+holds "what is imported is taken" imported '&B 1_' '10
+21
+32'
+
 # Trouble.
-usage='usage: jazhuppe [-i] [-c CODE=SET]... [-e | -s | -t] RULE [FILE...]\n       jazhuppe [-i] --rewrite RULE\n'
+usage='usage: jazhuppe [-i] [-c CODE=SET]... [-e | -s | -t] RULE [FILE...]\n       jazhuppe [-i] --rewrite RULE
+       jazhuppe --like PATTERN [NAME...]\n'
 expect "a plan that is not there" 2 'three:3\nthree:14\nthree:25\n' 'jazhuppe: gone: No such file or directory\n' \
     'Row' gone three
 expect "a folder" 2 '' 'jazhuppe: .: Is a directory\n' 'Row' .
@@ -143,6 +167,13 @@ for more in three -; do
 done
 expect "--rewrite and -c" 2 '' "jazhuppe: --rewrite takes no FILE and no -c\n${usage}Try 'jazhuppe --help'.\n" \
     -c '?=a' --rewrite 'a{1,2}'
+expect "--like without a pattern" 2 '' "jazhuppe: PATTERN is missing\n${usage}Try 'jazhuppe --help'.\n" --like
+for option in -i '-c?=a'; do
+    expect "--like and $option" 2 '' "jazhuppe: --like takes no -i and no -c\n${usage}Try 'jazhuppe --help'.\n" \
+        --like "$option" 'a%' ab
+    expect "$option and --like" 2 '' "jazhuppe: --like takes no -i and no -c\n${usage}Try 'jazhuppe --help'.\n" \
+        "$option" --like 'a%'
+done
 expect "no such long option" 2 '' "jazhuppe: no such option: --fold\n${usage}Try 'jazhuppe --help'.\n" --fold 'Row'
 
 # Refusals, with a caret under the place.
@@ -189,6 +220,19 @@ expect "--rewrite, a finished text of 1,023 bytes" 0 "$(printf '%098d' 0 | tr 0 
 expect "--rewrite, one of 1,024 refused by 2" 2 '' 'jazhuppe: refused 2 at 1023: the rewritten rule is over 1,023 bytes\n' \
     --rewrite "{98,99}[$(printf '%0924d' 0)]"
 
+like='jazhuppe: refused 14 at'
+words='\\ last, or before another byte than %, _ or \\'
+expect "--like refused by 14, at the end" 2 '' "$like 2: $words\n  ab\\\\\n    ^\n" --like 'ab\'
+expect "--like refused by 14, before another byte" 2 '' "$like 5: $words\n  Caf\0303\0251\\\\.%\\\\\n      ^\n" \
+    --like 'Café\.%\' Café
+expect "--like refused by 14, the pattern in part" 2 '' "$like 1100: $words
+  $(printf '%060d' 0)\\\\a\n$(printf '%62s' '')^\n" --like "$long\\a"
+expect "--like refused by 1" 2 '' 'jazhuppe: refused 1 at 0: the rule is empty\n  \n  ^\n' --like '' ''
+expect "--like refused by 8" 2 '' 'jazhuppe: refused 8 at 4 of the imported rule: the rule admits the empty string\n' --like '%%' ab
+expect "--like refused by 7" 2 '' 'jazhuppe: refused 7 at 510 of the imported rule: this element takes the positions past 255\n' \
+    --like "$(printf '%0256d' 0 | tr 0 .)"
+expect "--like refused by 2" 2 '' 'jazhuppe: refused 2 at 1023 of the imported rule: the rule is over 1,023 bytes\n' --like "$long"
+
 # Help.
 version=$(sed -n 's/^#define JAZHUPPE_VERSION "\(.*\)"/\1/p' "$header")
 expect "--version" 0 "jazhuppe $version\n" '' --version
@@ -214,6 +258,10 @@ if [ -w /dev/full ]; then
     holds "a full disk is trouble" [ "$? $(cat err)" = "2 jazhuppe: standard output: No space left on device" ]
     "$program" --rewrite 'Row' > /dev/full 2> err
     holds "for --rewrite too" [ "$? $(cat err)" = "2 jazhuppe: standard output: No space left on device" ]
+    "$program" --like 'a%' > /dev/full 2> err
+    holds "for --like too" [ "$? $(cat err)" = "2 jazhuppe: standard output: No space left on device" ]
+    "$program" --like 'a%' ab > /dev/full 2> err
+    holds "and for names" [ "$? $(cat err)" = "2 jazhuppe: standard output: No space left on device" ]
 fi
 yes a | head -c 1000000 > many
 { "$program" 'a' many 2> err; echo $? > status; } | head -n 1 > out

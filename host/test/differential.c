@@ -5,6 +5,11 @@
  *                              both with codes where they follow, each a tab, the byte, = and its set, spelt as one
  *                              position of a rule, or with no byte
  *   = raw, tab, hexadecimal    a text with references and the bytes that it decodes to, by XML 1.0
+ *   + rule, tab, name          a name that the rule covers
+ *   - rule, tab, name          a name that it does not cover
+ *   % pattern, tab, rule       a LIKE pattern and the text of its rule; then names, each a tab, + or - as LIKE accepts it or
+ *                              not, and the name
+ *   ~ pattern, tab, number, tab, place    a pattern whose import is refused
  * A difference prints the whole case and ends the run. */
 #include <stdarg.h>
 #include <stdio.h>
@@ -24,7 +29,8 @@ enum {
     CODES_ROOM = 300,
     SETS_MOST = JAZHUPPE_CODES_MOST + 3,
     SETS_ROOM = SETS_MOST * JAZHUPPE_SET_BYTES,
-    PLAN_MOST = 1536
+    PLAN_MOST = 1536,
+    PATTERN_MOST = 2100
 };
 
 typedef struct {
@@ -38,6 +44,8 @@ typedef struct {
     uint8_t text[PLAN_MOST];
     size_t text_len;
     second_rule read;
+    uint8_t pattern[PATTERN_MOST], name[PLAN_MOST]; /* the name is for the pattern, or before that for the rule */
+    size_t pattern_len, name_len;
 } test_case;
 
 static unsigned long long seed = 1;
@@ -61,10 +69,11 @@ static bool one_in(uint32_t n)
 
 /* ---- what was asked, for the report of a difference */
 
-enum { PREPARE, REWRITE, OPEN, FEED, FINISH, DECODE, SEARCH, SHOW, CALLS };
-static const char *const call_names[CALLS] = {"prepare", "rewrite", "open", "feed", "finish", "decode", "search", "show"};
+enum { PREPARE, REWRITE, OPEN, FEED, FINISH, DECODE, SEARCH, SHOW, COVERS, IMPORT, CALLS };
+static const char *const call_names[CALLS] = {"prepare", "rewrite", "open", "feed", "finish",
+                                              "decode", "search", "show", "covers", "import_like"};
 static unsigned long counts[CALLS][REFUSALS + 1], ends_seen, starts_seen, shown_seen, windows_seen, held_seen, decoded_seen,
-    smudged_seen, smudges_seen, rewritten_seen, kept_ends_seen, kept_starts_seen;
+    smudged_seen, smudges_seen, rewritten_seen, kept_ends_seen, kept_starts_seen, covered_seen, accepted_seen, declined_seen;
 
 static char asked[16384];
 static size_t asked_len;
@@ -108,6 +117,8 @@ static void different(const char *what)
     print_bytes("sets", now.sets, now.sets_len);
     print_bytes("plan", now.plan, now.plan_len);
     print_bytes("text", now.text, now.text_len);
+    print_bytes("pattern", now.pattern, now.pattern_len);
+    print_bytes("name", now.name, now.name_len);
     printf("calls, in order:\n%s", asked);
     printf("differential: 0 ok, 1 failed\n");
     exit(EXIT_FAILURE);
@@ -125,16 +136,28 @@ static void hold_prepared(int call, jazhuppe_prepared given, jazhuppe_prepared e
     different(call_names[call]);
 }
 
-static void hold_text(jazhuppe_text given, jazhuppe_text expected)
+static void hold_text(int call, jazhuppe_text given, jazhuppe_text expected)
 {
-    counts[REWRITE][expected.number % (REFUSALS + 1)]++;
+    counts[call][expected.number % (REFUSALS + 1)]++;
     if (memcmp(&given, &expected, sizeof given) == 0)
         return;
     printf("given %lu at %lu, length %lu\n", (unsigned long)given.number, (unsigned long)given.place,
            (unsigned long)given.length);
     printf("expected %lu at %lu, length %lu\n", (unsigned long)expected.number, (unsigned long)expected.place,
            (unsigned long)expected.length);
-    different(call_names[REWRITE]);
+    different(call_names[call]);
+}
+
+static void hold_covered(jazhuppe_covered given, jazhuppe_covered expected)
+{
+    counts[COVERS][expected.number % (REFUSALS + 1)]++;
+    if (memcmp(&given, &expected, sizeof given) == 0)
+        return;
+    printf("given %lu at %lu, covered %lu\n", (unsigned long)given.number, (unsigned long)given.place,
+           (unsigned long)given.covered);
+    printf("expected %lu at %lu, covered %lu\n", (unsigned long)expected.number, (unsigned long)expected.place,
+           (unsigned long)expected.covered);
+    different(call_names[COVERS]);
 }
 
 static void print_answer(const char *name, jazhuppe_answer a)
@@ -164,6 +187,17 @@ static void hold_list(int call, const uint32_t *expected, size_t count)
         return;
     print_list("given", given, count);
     print_list("expected", expected, count);
+    different(call_names[call]);
+}
+
+/* The buffer that was lent last: the expected bytes, and past them what stood there. */
+static void hold_buffer(int call, const uint8_t *expected, size_t length)
+{
+    if (!untouched_past(&list_room, length))
+        different("bytes past those reported, or around the buffer");
+    if (memcmp(list_room.slice, expected, length) == 0)
+        return;
+    print_bytes("given", list_room.slice, length);
     different(call_names[call]);
 }
 
@@ -470,11 +504,11 @@ static void plan_spelt(uint8_t c)
         plan_byte(c);
 }
 
-static uint8_t any_that_fits(size_t i)
+static uint8_t any_that_fits(const second_rule *rule, size_t i)
 {
     uint8_t c = any_plan_letter();
 
-    for (int tries = 0; tries < 400 && !second_fits(&now.read, i, c); tries++)
+    for (int tries = 0; tries < 400 && !second_fits(rule, i, c); tries++)
         c = tries < 40 ? any_plan_letter() : (uint8_t)below(256);
     return c;
 }
@@ -491,7 +525,7 @@ static void plan_occurrence(void)
         if (one_in(seldom) || (p->optional && one_in(2)))
             continue;
         while (bytes-- > 0)
-            plan_spelt(any_that_fits(i));
+            plan_spelt(any_that_fits(&now.read, i));
     }
 }
 
@@ -600,7 +634,7 @@ static void put_positions(uint32_t count)
  * part and nearly. */
 static void make_long(void)
 {
-    static const uint32_t near[] = {62, 63, 64, 65, 126, 127, 128, 129, 190, 191, 192, 193, 253, 254, 255, 256};
+    static const uint32_t near[] = {62, 63, 64, 65, 126, 127, 128, 129, 190, 191, 192, 193, 253, 254, 255, 256, 257, 300};
     uint32_t count = one_in(2) ? near[below(sizeof near / sizeof near[0])] : 1 + below(256);
 
     now.rule_len = 0;
@@ -631,6 +665,129 @@ static void make_wide(void)
     put_wide();
     read_with_codes();
     make_plan();
+}
+
+/* ---- names and patterns */
+
+static void name_byte(uint8_t c)
+{
+    if (now.name_len < PLAN_MOST)
+        now.name[now.name_len++] = c;
+}
+
+static void name_letters(uint32_t count)
+{
+    while (count-- > 0)
+        name_byte(any_letter());
+}
+
+/* One byte more, less or other, or none is left; most often it stays. */
+static void spoil_name(void)
+{
+    size_t at = below((uint32_t)now.name_len + 1), behind = now.name_len - at;
+
+    if (one_in(30)) {
+        now.name_len = 0;
+    } else if (one_in(6) && now.name_len < PLAN_MOST) {
+        memmove(now.name + at + 1, now.name + at, behind);
+        now.name[at] = any_letter();
+        now.name_len++;
+    } else if (one_in(6) && behind > 0) {
+        memmove(now.name + at, now.name + at + 1, behind - 1);
+        now.name_len--;
+    } else if (one_in(6) && behind > 0) {
+        now.name[at] = one_in(2) ? now.name[at] ^ 0x20 : any_letter();
+    }
+}
+
+/* An occurrence of the rule, twice, nearly one or with more about it; or the raw plan. */
+static void make_name(const second_rule *rule)
+{
+    uint32_t more = one_in(6) ? 1 + below(2) : 0, times = one_in(12) ? 2 : 1;
+
+    now.name_len = 0;
+    if (one_in(10)) {
+        memcpy(now.name, now.plan, now.plan_len);
+        now.name_len = now.plan_len;
+        return;
+    }
+    name_letters(one_in(2) ? more : 0);
+    while (times-- > 0)
+        for (size_t i = 0; i < rule->count; i++)
+            if (!rule->positions[i].optional || one_in(2))
+                for (uint32_t bytes = rule->positions[i].repeatable ? 1 + below(3) : 1; bytes > 0; bytes--)
+                    name_byte(any_that_fits(rule, i));
+    name_letters(one_in(2) ? more : 0);
+    spoil_name();
+}
+
+static void pattern_byte(uint8_t c)
+{
+    if (now.pattern_len < PATTERN_MOST)
+        now.pattern[now.pattern_len++] = c;
+}
+
+static void pattern_item(void)
+{
+    static const char plain[] = "%_\\.[]{}?+*^-,";
+    uint32_t kind = below(10);
+    uint8_t c = kind < 6 ? (uint8_t)plain[below(sizeof plain - 1)] : any_letter();
+
+    if (kind < 4) {
+        pattern_byte((uint8_t)"%_"[one_in(3)]);
+        return;
+    }
+    if (strchr("%_\\", c) != NULL && c != 0)
+        pattern_byte('\\');
+    pattern_byte(c);
+}
+
+/* One item again and again, about as often as a rule has positions, or fills the text. */
+static void pattern_row(void)
+{
+    static const char *const items[] = {"%", "_", "a", ".", "\\%", "\\\\"};
+    static const uint32_t near[] = {3, 255, 511, 1023, 2048};
+    const char *item = items[below(sizeof items / sizeof items[0])];
+
+    for (uint32_t n = near[below(sizeof near / sizeof near[0])] - 2 + below(5); n > 0; n--)
+        for (const char *c = item; *c != '\0'; c++)
+            pattern_byte((uint8_t)*c);
+    if (one_in(2))
+        pattern_item();
+}
+
+/* Few items most often; seldom as many as a rule may have positions; and now and then a \ in any place of it. */
+static void make_pattern(void)
+{
+    uint32_t items = one_in(20) ? 230 + below(50) : one_in(40) ? 0 : 1 + below(8);
+
+    now.pattern_len = 0;
+    if (one_in(8))
+        pattern_row();
+    else
+        while (items-- > 0)
+            pattern_item();
+    if (now.pattern_len > 0 && one_in(10))
+        now.pattern[one_in(3) ? now.pattern_len - 1 : below((uint32_t)now.pattern_len)] = '\\';
+}
+
+/* A name that the pattern accepts, or nearly one. */
+static void make_name_of_pattern(void)
+{
+    now.name_len = 0;
+    for (size_t at = 0; at < now.pattern_len; at++) {
+        uint8_t c = now.pattern[at];
+
+        if (c == '%')
+            name_letters(one_in(2) ? below(4) : 0);
+        else if (c == '_')
+            name_letters(1);
+        else if (c != '\\')
+            name_byte(c);
+        else if (++at < now.pattern_len)
+            name_byte(now.pattern[at]);
+    }
+    spoil_name();
 }
 
 /* A list's or buffer's length: what is needed, one less, none, or more. */
@@ -817,14 +974,9 @@ static void try_rewrite(uint32_t fold)
     uint8_t *out = lend(&list_room, room);
 
     note("rewrite of the stored rule with fold %lu into %zu\n", (unsigned long)fold, room);
-    hold_text(jazhuppe_rewrite(stored, now.stored_len, fold, out, room), expected);
+    hold_text(REWRITE, jazhuppe_rewrite(stored, now.stored_len, fold, out, room), expected);
     hold_lent();
-    if (!untouched_past(&list_room, expected.length))
-        different("bytes past those rewritten, or around the buffer");
-    if (memcmp(out, expected_out, expected.length) != 0) {
-        print_bytes("given", out, expected.length);
-        different("rewrite");
-    }
+    hold_buffer(REWRITE, expected_out, expected.length);
 }
 
 /* A rewriting is accepted, and is its own rewriting. */
@@ -837,7 +989,7 @@ static void try_again(const uint8_t *rewritten, size_t length)
     note("prepare and rewrite of the rewriting\n");
     if (jazhuppe_prepare(rule, length, now.fold).number != 0)
         different("a rewriting that is refused");
-    hold_text(jazhuppe_rewrite(rule, length, now.fold, out, JAZHUPPE_REWRITE_BUFFER), same);
+    hold_text(REWRITE, jazhuppe_rewrite(rule, length, now.fold, out, JAZHUPPE_REWRITE_BUFFER), same);
     if (memcmp(out, rewritten, length) != 0)
         different("a rewriting rewritten");
 }
@@ -927,12 +1079,7 @@ static void try_decode(void)
     note("decode of %zu into %zu\n", length, room);
     hold_answer(DECODE, jazhuppe_decode(raw, length, out, room), expected);
     hold_lent();
-    if (!untouched_past(&list_room, expected.count))
-        different("bytes past those decoded, or around the buffer");
-    if (memcmp(out, expected_out, expected.count) != 0) {
-        print_bytes("given", out, expected.count);
-        different("decode");
-    }
+    hold_buffer(DECODE, expected_out, expected.count);
 }
 
 static void try_search(void)
@@ -975,6 +1122,76 @@ static void try_show(void)
     hold_lent();
 }
 
+/* ---- whole names and LIKE */
+
+/* The name of now, or memory over the limit: whether it is covered. */
+static bool try_covers(const uint8_t *rule, size_t rule_len, uint32_t fold, bool big)
+{
+    size_t length = big ? over : now.name_len;
+    const uint8_t *name = big ? too_much : lend_bytes(&text_room, now.name, now.name_len);
+    jazhuppe_covered expected = second_covers(rule, rule_len, fold, big ? too_much : now.name, length);
+
+    note("covers with fold %lu, of %zu\n", (unsigned long)fold, length);
+    hold_covered(jazhuppe_covers(lend_bytes(&rule_room, rule, rule_len), rule_len, fold, name, length), expected);
+    hold_lent();
+    return expected.covered != 0;
+}
+
+/* Names for the rule of now, which is read without its codes. */
+static void try_names(void)
+{
+    second_rule alone = second_read(now.rule, now.rule_len, now.fold);
+
+    for (int names = 0; names < 3; names++) {
+        make_name(&alone);
+        covered_seen += try_covers(now.rule, now.rule_len, one_in(8) ? !now.fold : now.fold, one_in(100));
+    }
+}
+
+/* Into a buffer of so many bytes: the text's length. */
+static size_t try_import(size_t room, bool big, uint8_t *text)
+{
+    size_t length = big ? over : now.pattern_len;
+    const uint8_t *pattern = big ? too_much : lend_bytes(&rule_room, now.pattern, now.pattern_len);
+    jazhuppe_text expected = second_import_like(big ? too_much : now.pattern, length, text, room);
+    uint8_t *out = lend(&list_room, room);
+
+    note("import of %zu into %zu\n", length, room);
+    hold_text(IMPORT, jazhuppe_import_like(pattern, length, out, room), expected);
+    hold_lent();
+    hold_buffer(IMPORT, text, expected.length);
+    return expected.length;
+}
+
+/* The imported rule covers the name of now exactly where LIKE accepts it. */
+static void try_like(const uint8_t *text, size_t length)
+{
+    bool accepted = second_like(now.pattern, now.pattern_len, now.name, now.name_len);
+
+    if (try_covers(text, length, 0, false) != accepted)
+        different(accepted ? "a name that LIKE accepts" : "a name that LIKE does not accept");
+    accepted_seen += accepted;
+    declined_seen += !accepted;
+}
+
+static void try_pattern(void)
+{
+    uint8_t text[JAZHUPPE_IMPORT_BUFFER];
+    size_t length;
+
+    try_import(list_length(JAZHUPPE_IMPORT_BUFFER), one_in(50), text);
+    length = try_import(JAZHUPPE_IMPORT_BUFFER, false, text);
+    if (length == 0)
+        return;
+    note("prepare of the imported rule\n");
+    hold_prepared(PREPARE, jazhuppe_prepare(lend_bytes(&rule_room, text, length), length, now.fold),
+                  second_prepare(text, length, now.fold));
+    for (int names = 0; names < 3; names++) {
+        make_name_of_pattern();
+        try_like(text, length);
+    }
+}
+
 static void count_smudges(void)
 {
     smudged_seen += now.read.codes_count > 0;
@@ -982,16 +1199,22 @@ static void count_smudges(void)
         smudges_seen += now.read.codes_count > 0 && memchr(now.codes, now.text[i], now.codes_len) != NULL;
 }
 
-/* Every call on the rule, the codes and the plan of now. */
-static void try_case(void)
+static void begin_case(void)
 {
     asked_len = 0;
     asked[0] = '\0';
     lent_in_front = one_in(2);
     /* So that each room has a slice to look at, also where the first call is lent none of it. */
+    lend_rule();
     lend_codes();
     lend_sets();
     lend(&text_room, 0);
+}
+
+/* Every call on the rule, the codes and the plan of now. */
+static void try_case(void)
+{
+    begin_case();
     now.text_len = second_decoded(now.plan, now.plan_len, now.text);
     decoded_seen += now.text_len < now.plan_len;
     count_smudges();
@@ -1004,6 +1227,7 @@ static void try_case(void)
     try_search();
     if (one_in(4))
         try_show();
+    try_names();
 }
 
 static void draw_case(void)
@@ -1022,6 +1246,8 @@ static void draw_case(void)
         make_plan();
     }
     try_case();
+    make_pattern();
+    try_pattern();
 }
 
 /* ---- cases that are written down */
@@ -1102,9 +1328,69 @@ static bool decodes_to(const char *raw, const char *hexadecimal)
     return true;
 }
 
+static void take_name(const char *name)
+{
+    now.name_len = 0;
+    while (*name != '\0')
+        name_byte((uint8_t)*name++);
+}
+
+static void take_pattern(const char *pattern)
+{
+    now.pattern_len = 0;
+    while (*pattern != '\0')
+        pattern_byte((uint8_t)*pattern++);
+}
+
+static void try_written_name(const char *rule, const char *name, bool covered)
+{
+    begin_case();
+    take_name(name);
+    if (second_read((const uint8_t *)rule, strlen(rule), 0).number != 0)
+        different("a written name's rule");
+    if (try_covers((const uint8_t *)rule, strlen(rule), 0, false) != covered)
+        different("a written name");
+}
+
+/* The second implementation, which the finder is held to, gives the rule that is written, and LIKE what the names say. */
+static void try_written_pattern(const char *pattern, const char *rule, char *names)
+{
+    uint8_t text[JAZHUPPE_IMPORT_BUFFER];
+    size_t length;
+
+    begin_case();
+    take_pattern(pattern);
+    length = try_import(JAZHUPPE_IMPORT_BUFFER, false, text);
+    if (length == 0 || length != strlen(rule) || memcmp(text, rule, length) != 0)
+        different("a written pattern");
+    while (names != NULL) {
+        char *rest = cut_at_tab(names);
+
+        take_name(names + 1);
+        if ((names[0] != '+' && names[0] != '-') ||
+            second_like(now.pattern, now.pattern_len, now.name, now.name_len) != (names[0] == '+'))
+            different("a written name");
+        try_like(text, length);
+        names = rest;
+    }
+}
+
+static void try_written_refusal(const char *pattern, const char *number, const char *place)
+{
+    uint8_t text[JAZHUPPE_IMPORT_BUFFER];
+    jazhuppe_text t;
+
+    begin_case();
+    take_pattern(pattern);
+    t = second_import_like(now.pattern, now.pattern_len, text, sizeof text);
+    if (place == NULL || t.number != strtoul(number, NULL, 10) || t.place != strtoul(place, NULL, 10))
+        different("a written refusal");
+    try_import(JAZHUPPE_IMPORT_BUFFER, false, text);
+}
+
 static void try_line(char *line)
 {
-    char *second = cut_at_tab(line), *codes = second == NULL ? NULL : cut_at_tab(second);
+    char *second = cut_at_tab(line), *more = second == NULL ? NULL : cut_at_tab(second);
 
     if (second == NULL)
         different("a line without a tab");
@@ -1113,7 +1399,13 @@ static void try_line(char *line)
     if (line[0] == '=')
         try_often(".", 0, line + 1, NULL);
     else if (line[0] == '?' || line[0] == '!')
-        try_often(line + 1, line[0] == '!', second, codes);
+        try_often(line + 1, line[0] == '!', second, more);
+    else if (line[0] == '+' || line[0] == '-')
+        try_written_name(line + 1, second, line[0] == '+');
+    else if (line[0] == '%')
+        try_written_pattern(line + 1, second, more);
+    else if (line[0] == '~')
+        try_written_refusal(line + 1, second, more);
     else
         different("a line that begins otherwise");
 }
@@ -1148,7 +1440,38 @@ static void print_counts(void)
     printf("cases with codes %lu, code bytes in their texts %lu\n", smudged_seen, smudges_seen);
     printf("rules with outer gaps, rewritten %lu, ends kept %lu, starts kept %lu\n", rewritten_seen, kept_ends_seen,
            kept_starts_seen);
+    printf("names covered %lu, by LIKE accepted %lu, not accepted %lu\n", covered_seen, accepted_seen, declined_seen);
     printf("ends %lu, starts %lu, shown %lu, windows %lu\n", ends_seen, starts_seen, shown_seen, windows_seen);
+}
+
+/* Whether something came up so often in a thousand cases. */
+static bool enough(const char *what, unsigned long count, unsigned long often)
+{
+    bool is = count * 1000 >= often * cases;
+
+    if (!is)
+        printf("FAILED too few: %s, %lu in %u cases\n", what, count, cases);
+    return is;
+}
+
+/* Names and patterns of every kind were drawn, so that their answers say something. */
+static bool enough_drawn(void)
+{
+    static const int rule_numbers[] = {1, 2, 3, 4, 5, 6, 7, 8, 10, 16}, import_numbers[] = {1, 2, 7, 8, 9, 10, 14};
+    bool all = enough("names covered", covered_seen, 500);
+    char what[64];
+
+    all = enough("names that LIKE accepts", accepted_seen, 500) && all;
+    all = enough("names that LIKE does not accept", declined_seen, 500) && all;
+    for (size_t i = 0; i < sizeof rule_numbers / sizeof rule_numbers[0]; i++) {
+        snprintf(what, sizeof what, "names refused by %d", rule_numbers[i]);
+        all = enough(what, counts[COVERS][rule_numbers[i]], 1) && all;
+    }
+    for (size_t i = 0; i < sizeof import_numbers / sizeof import_numbers[0]; i++) {
+        snprintf(what, sizeof what, "patterns refused by %d", import_numbers[i]);
+        all = enough(what, counts[IMPORT][import_numbers[i]], 5) && all;
+    }
+    return all;
 }
 
 int main(int argc, char **argv)
@@ -1160,7 +1483,7 @@ int main(int argc, char **argv)
     if (file == NULL && argc > 2)
         cases = (unsigned)strtoul(argv[2], NULL, 10);
     source = random_from(seed);
-    rule_room = lent_room(RULE_ROOM);
+    rule_room = lent_room(PATTERN_MOST);
     codes_room = lent_room(CODES_ROOM);
     sets_room = lent_room(SETS_ROOM);
     text_room = lent_room(PLAN_MOST);
@@ -1174,6 +1497,8 @@ int main(int argc, char **argv)
             draw_case();
     printf("differential: seed %llu, %u %s\n", seed, cases, file != NULL ? "lines" : "cases");
     print_counts();
+    if (file == NULL && cases >= 1000 && !enough_drawn())
+        return EXIT_FAILURE;
     printf("differential: %d ok, 0 failed\n", CALLS);
     return EXIT_SUCCESS;
 }

@@ -101,6 +101,44 @@ static void test_rewriting(void)
     munmap(out, over + JAZHUPPE_REWRITE_BUFFER);
 }
 
+static bool comes_to(jazhuppe_covered c, uint32_t number, uint32_t place)
+{
+    return c.number == number && c.place == place && c.covered == 0;
+}
+
+/* The rule, then 10; no byte of the name is touched. */
+static void test_name(void)
+{
+    const uint8_t *name = untouchable_memory(over + 1), *rule = (const uint8_t *)"a?";
+
+    CHECK(comes_to(jazhuppe_covers(rule, 2, 0, name, over), JAZHUPPE_ADMITS_EMPTY, 2));
+    CHECK(comes_to(jazhuppe_covers((const uint8_t *)"a{1,2}", 6, 0, name, over), JAZHUPPE_OUTER_GAP, 1));
+    CHECK(comes_to(jazhuppe_covers(rule, 1, 0, name, over), JAZHUPPE_TOO_MUCH, 0));
+    /* Cut to 32 bits, these lengths are 1. */
+    CHECK(comes_to(jazhuppe_covers(rule, 1, 0, name, over + 1), JAZHUPPE_TOO_MUCH, 0));
+    CHECK(comes_to(jazhuppe_covers(name, over + 1, 0, name, over + 1), JAZHUPPE_RULE_LONG, JAZHUPPE_RULE_MOST));
+    munmap((void *)name, over + 1);
+}
+
+/* 9, then 10: no byte of a pattern that is too long is touched, nor any of the buffer but those of the text. */
+static void test_pattern(void)
+{
+    const uint8_t *pattern = untouchable_memory(over + 1);
+    uint8_t *out = lazy_memory(over + JAZHUPPE_IMPORT_BUFFER);
+    jazhuppe_text t = jazhuppe_import_like(pattern, over, out, JAZHUPPE_IMPORT_BUFFER - 1);
+
+    CHECK(t.number == JAZHUPPE_TOO_SHORT && t.place == 0 && t.length == 0);
+    t = jazhuppe_import_like(pattern, over, out, JAZHUPPE_IMPORT_BUFFER);
+    CHECK(t.number == JAZHUPPE_TOO_MUCH && t.place == 0 && t.length == 0);
+    /* Cut to 32 bits, these lengths are 1 and 1,022. */
+    t = jazhuppe_import_like(pattern, over + 1, out, JAZHUPPE_IMPORT_BUFFER);
+    CHECK(t.number == JAZHUPPE_TOO_MUCH && t.place == 0 && t.length == 0);
+    t = jazhuppe_import_like((const uint8_t *)"%a", 2, out, over + JAZHUPPE_IMPORT_BUFFER - 1);
+    CHECK(t.number == 0 && t.place == 0 && t.length == 3 && memcmp(out, ".*a", 4) == 0);
+    munmap((void *)pattern, over + 1);
+    munmap(out, over + JAZHUPPE_IMPORT_BUFFER);
+}
+
 /* One piece over the limit; and the needed length, JAZHUPPE_FEED_LIST, is not cut to 32 bits. */
 static void test_piece(void)
 {
@@ -168,6 +206,30 @@ static void test_longest(void)
     munmap(places, list * sizeof *places);
 }
 
+/* A name of as many bytes as may be, of which the last decides. */
+static void test_longest_name(void)
+{
+    uint8_t *name = lazy_memory(most);
+    jazhuppe_covered c;
+
+    name[most - 1] = 'A';
+    c = jazhuppe_covers((const uint8_t *)".+A", 3, 0, name, most);
+    CHECK(c.number == 0 && c.place == 0 && c.covered == 1);
+    munmap(name, most);
+}
+
+/* A pattern of as many bytes as may be, with a bad \ at its very end: that is 14, and not 2. */
+static void test_longest_pattern(void)
+{
+    uint8_t *pattern = lazy_memory(most), out[JAZHUPPE_IMPORT_BUFFER];
+    jazhuppe_text t;
+
+    pattern[most - 1] = '\\';
+    t = jazhuppe_import_like(pattern, most, out, sizeof out);
+    CHECK(t.number == JAZHUPPE_LIKE && t.place == most - 1 && t.length == 0);
+    munmap(pattern, most);
+}
+
 int main(void)
 {
     scan_room = lent_room(WORDS * sizeof(uint64_t));
@@ -176,9 +238,13 @@ int main(void)
     run("10: with lists that are long enough", test_long_lists);
     run("15: before 10, and lengths that are not cut to 32 bits", test_codes);
     run("a rewriting, and lengths that are not cut to 32 bits", test_rewriting);
+    run("10: a name over the limit, after the rule, untouched", test_name);
+    run("10: a pattern over the limit, after 9, untouched", test_pattern);
     run("10: a piece over the limit; 9 just below it", test_piece);
     run("10: the last bytes of a plan, one by one", test_last_bytes);
     run("10: held bytes at the limit", test_last_held);
     run("the longest text, searched and scanned", test_longest);
+    run("the longest name", test_longest_name);
+    run("the longest pattern, and 14 at its end", test_longest_pattern);
     return finished("limits");
 }

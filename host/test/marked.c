@@ -1,5 +1,5 @@
-/* marked.c: the requirement's marked table, its lister example, the fold, codes, rewritings of stored rules, and the
- * header's constants, through the header. */
+/* marked.c: the requirement's marked table, its lister example, the fold, codes, rewritings of stored rules, whole names,
+ * imports of LIKE patterns, and the header's constants, through the header. */
 #include <ctype.h>
 #include <stdio.h>
 #include <string.h>
@@ -911,6 +911,277 @@ static void test_rewrite_buffer(void)
     CHECK(rewrite("a{0,1}", 6, 0, 1).number == JAZHUPPE_TOO_SHORT);
 }
 
+/* ---- whole names */
+
+/* Of a rule that is not refused. */
+static bool covers(const char *rule, uint32_t folded, const char *bytes, size_t length)
+{
+    const uint8_t *whole = lend_bytes(&text_room, bytes, length);
+    jazhuppe_covered c = jazhuppe_covers(lend_rule(rule), strlen(rule), folded, whole, length);
+
+    CHECK(c.number == 0 && c.place == 0 && c.covered <= 1);
+    CHECK(untouched(&rule_room) && untouched(&text_room));
+    return c.covered == 1;
+}
+
+static void test_covers(void)
+{
+    static const struct {
+        const char *rule;
+        uint32_t fold;
+        const char *name;
+        bool covered;
+    } rows[] = {
+        {"a", 0, "a", true}, {"a", 0, "", false}, {"a", 0, "b", false}, {"a", 0, "aa", false}, {"a?b?c", 0, "", false},
+        {".", 0, "\n", true}, {".", 0, "", false}, {"[^a]", 0, "b", true}, {"[^a]", 0, "a", false},
+        /* Its front, its back or its middle alone is not the whole name, nor is it twice an occurrence. */
+        {"ab", 0, "ab", true}, {"ab", 0, "abx", false}, {"ab", 0, "xab", false}, {"ab", 0, "xabx", false},
+        {"ab", 0, "abab", false}, {"ab", 0, "aab", false}, {"ab", 0, "abb", false}, {"ab", 0, "a", false},
+        {"Row A&B [0-9]+", 0, "Row A&B 12", true}, {"Row A&B [0-9]+", 0, "Row A&B 12;", false},
+        {"Row A&B [0-9]+", 0, " Row A&B 12", false}, {"Row A&B [0-9]+", 0, "Row A&B ", false},
+        /* The name is taken as it comes. */
+        {"a&b", 0, "a&b", true}, {"a&b", 0, "a&amp;b", false}, {"a&b", 0, "a&#38;b", false}, {"a&amp;b", 0, "a&amp;b", true},
+        {"a&amp;b", 0, "a&b", false}, {"a{5,5}b", 0, "a&amp;b", true}, {"&am", 0, "&am", true},
+        /* Optional positions, repeats and gaps: not the first or the longest way through them, but any. */
+        {"ab?", 0, "a", true}, {"ab?", 0, "ab", true}, {"a?b", 0, "b", true}, {"a?a", 0, "a", true}, {"a?a", 0, "aa", true},
+        {"a?a", 0, "aaa", false}, {"a*a", 0, "aaaa", true}, {"a+a", 0, "a", false}, {"a+ab", 0, "aaab", true},
+        {"a+", 0, "aaa", true}, {"a+", 0, "aab", false}, {"a{1,3}b", 0, "ab", false}, {"a{1,3}b", 0, "abb", true},
+        {"a{1,3}b", 0, "abbbb", true}, {"a{1,3}b", 0, "axxxxb", false}, {"{2,2}", 0, "ab", true}, {"{2,2}", 0, "abc", false},
+        {"a.*b", 0, "ab", true}, {"a.*b", 0, "a\nb", true}, {"a.*b", 0, "abab", true}, {"a.*b", 0, "aba", false},
+        {"a.*b", 0, "b", false}, {"a.*b.*c", 0, "abcbc", true}, {"a.*b.*c", 0, "acb", false}, {".*a", 0, "bab", false},
+        {".*a", 0, "baa", true}, {"a.*", 0, "a", true}, {"a.*", 0, "ba", false}, {".*a.*", 0, "bab", true},
+        {"abc{1,3}de", 0, "abcffde", true}, {"abc{1,3}de", 0, "abcabcffdee", false}, {"abc?d?efg?h", 0, "abefh", true},
+        /* The fold flag. */
+        {"row a", 0, "Row A", false}, {"row a", 1, "Row A", true}, {"ROW [a-c]+", 1, "rOw aBcC", true},
+        {"ROW [a-c]+", 256, "rOw aBcD", false}, {"[^a]", 1, "A", false}, {"[^a]", 0, "A", true}, {"@", 1, "`", false},
+    };
+
+    for (size_t i = 0; i < sizeof rows / sizeof rows[0]; i++) {
+        about("%s covers %s, fold %lu", rows[i].rule, rows[i].name, (unsigned long)rows[i].fold);
+        CHECK(covers(rows[i].rule, rows[i].fold, rows[i].name, strlen(rows[i].name)) == rows[i].covered);
+    }
+}
+
+/* Bytes that C's strings do not hold, or that are more than one character to another eye. */
+static void test_covers_any_bytes(void)
+{
+    const char bytes[] = {0, (char)255, '\r', '\n', (char)0xC3, (char)0xA9, 0};
+
+    CHECK(covers(".......", 0, bytes, sizeof bytes));
+    CHECK(!covers("......", 0, bytes, sizeof bytes) && !covers("........", 0, bytes, sizeof bytes));
+    CHECK(covers(".\xFF.*", 1, bytes, sizeof bytes) && !covers(".\xFE.*", 1, bytes, sizeof bytes));
+    CHECK(covers("[^a]+", 0, bytes, sizeof bytes) && !covers("[^\r]+", 0, bytes, sizeof bytes));
+}
+
+/* Letters in turn, as many as the rule has positions; then a byte less in front or behind, a byte more, another last. */
+static void test_covers_long_rules(void)
+{
+    static const uint32_t lengths[] = {1, 62, 63, 64, 65, 127, 128, 129, 191, 192, 193, 254, 255};
+
+    for (size_t i = 0; i < sizeof lengths / sizeof lengths[0]; i++) {
+        uint32_t letters = lengths[i];
+
+        begin();
+        for (uint32_t n = 0; n < letters; n++)
+            put_both((char[]){(char)('a' + n % 26), '\0'}, 1);
+        put(long_text, "a", 1);
+        about("a name of %lu letters", (unsigned long)letters);
+        CHECK(covers(long_rule, 0, long_text, letters) && !covers(long_rule, 0, long_text, letters + 1));
+        CHECK(!covers(long_rule, 0, long_text, letters - 1) && !covers(long_rule, 0, long_text + 1, letters - 1));
+        long_text[letters - 1] = '-';
+        CHECK(!covers(long_rule, 0, long_text, letters));
+    }
+}
+
+/* 254 optional positions, and one that is not: names of 1 to 255 bytes, and no others. */
+static void test_covers_optional(void)
+{
+    begin();
+    put(long_rule, "a?", 254);
+    put(long_rule, "a", 1);
+    put(long_text, "a", 300);
+    for (size_t length = 0; length <= 300; length++) {
+        about("254 a? and a, of %zu", length);
+        CHECK(covers(long_rule, 0, long_text, length) == (length >= 1 && length <= 255));
+    }
+}
+
+/* A block of eight optional positions over each border, of which so many are filled, and a repeat behind them. */
+static void test_covers_over_borders(void)
+{
+    for (uint32_t before = 56; before <= 192; before += before % 64 == 0 ? 56 : 1)
+        for (uint32_t filled = 0; filled <= 9; filled++) {
+            begin();
+            put_both("a", before - 1);
+            put(long_rule, "b?", 8);
+            put(long_text, "b", filled);
+            put(long_rule, ".*c+d", 1);
+            put(long_text, "ccd", 1);
+            about("block from bit %lu, %lu filled", (unsigned long)before, (unsigned long)filled);
+            CHECK(covers(long_rule, 0, long_text, strlen(long_text)));
+            CHECK(!covers(long_rule, 0, long_text, strlen(long_text) - 1));
+            CHECK(!covers(long_rule, 0, long_text + 1, strlen(long_text) - 1));
+            long_rule[strlen(long_rule) - 5] = '\0';
+            CHECK(covers(long_rule, 0, long_text, before - 1 + filled) == (filled <= 8));
+        }
+}
+
+/* ---- LIKE */
+
+/* Into a buffer of so many bytes, in which it writes as many as it reports and no other. */
+static jazhuppe_text import(const char *pattern, size_t length, size_t room)
+{
+    uint8_t *out = lend(&list_room, room);
+    jazhuppe_text t = jazhuppe_import_like(lend_bytes(&rule_room, pattern, length), length, out, room);
+
+    CHECK(t.length <= room && (t.number == 0 || t.length == 0));
+    CHECK(untouched_past(&list_room, t.length) && untouched(&rule_room));
+    return t;
+}
+
+static bool is_imported(const char *pattern, size_t length, size_t room, const char *text, size_t text_len)
+{
+    jazhuppe_text t = import(pattern, length, room);
+
+    return t.number == 0 && t.place == 0 && t.length == text_len && memcmp(list_room.slice, text, text_len) == 0;
+}
+
+/* The pattern becomes the text, which is accepted with any fold flag. */
+static void imports(const char *pattern, const char *text)
+{
+    size_t length = strlen(pattern), text_len = strlen(text);
+
+    about("%.200s, imported", pattern);
+    CHECK(is_imported(pattern, length, JAZHUPPE_IMPORT_BUFFER, text, text_len));
+    CHECK(is_imported(pattern, length, JAZHUPPE_IMPORT_BUFFER + 7, text, text_len));
+    CHECK(jazhuppe_prepare(lend_rule(text), text_len, 0).number == 0);
+    CHECK(jazhuppe_prepare(lend_rule(text), text_len, 1).number == 0);
+}
+
+/* A pattern, its rule, and names that LIKE accepts, and does not. */
+static void test_imports(void)
+{
+    enum { NAMES = 5 };
+    static const struct {
+        const char *pattern, *text, *accepted[NAMES], *declined[NAMES];
+    } rows[] = {
+        {"Row A&B %", "Row A&B .*", {"Row A&B ", "Row A&B 12"}, {"Row A&B", "row A&B 12", "Row A&amp;B 12", "xRow A&B 1", ""}},
+        {"Row A&amp;B _", "Row A&amp;B .", {"Row A&amp;B 1"}, {"Row A&B 1"}},
+        {"A", "A", {"A"}, {"a", "AA", ""}},
+        {"_", ".", {"a", "_", "%"}, {"", "aa", "\xC3\xA9"}},
+        {"__", "..", {"ab", "\xC3\xA9"}, {"a", "abc"}},
+        {"%a", ".*a", {"a", "ba", "aa"}, {"ab", "A", ""}},
+        {"a%", "a.*", {"a", "ab", "a\nb"}, {"ba"}},
+        {"%a%", ".*a.*", {"a", "bab"}, {"b", ""}},
+        {"a%b", "a.*b", {"ab", "axb", "abab"}, {"a", "b", "aba"}},
+        {"a_b", "a.b", {"a&b", "a\nb"}, {"ab", "a&amp;b"}},
+        {"%_", ".*.", {"a", "ab"}, {""}},
+        {"_%", "..*", {"a", "ab"}, {""}},
+        {"_%_", "..*.", {"ab", "abc"}, {"a"}},
+        {"%%a", ".*.*a", {"a", "bca"}, {"ab"}},
+        /* A \ takes %, _ and itself. */
+        {"\\%", "%", {"%"}, {"", "a", "\\%"}},
+        {"\\_", "_", {"_"}, {"a", "\\_"}},
+        {"\\\\", "\\\\", {"\\"}, {"\\\\", ""}},
+        {"\\%%", "%.*", {"%", "%%", "%a"}, {"a%"}},
+        {"\\\\%", "\\\\.*", {"\\", "\\a"}, {"%", "a"}},
+        {"\\\\\\%", "\\\\%", {"\\%"}, {"\\", "\\a"}},
+        {"Row _\\_%", "Row ._.*", {"Row A_", "Row A_12"}, {"Row AB12", "Row _"}},
+        {"100\\%", "100%", {"100%"}, {"100", "1000"}},
+        /* The marks of rules, and what is none. */
+        {".", "\\.", {"."}, {"a"}},
+        {"{1,2}", "\\{1,2\\}", {"{1,2}"}, {"a", "aa"}},
+        {"a{1,2}b", "a\\{1,2\\}b", {"a{1,2}b"}, {"axb"}},
+        {"[a-c]", "\\[a-c\\]", {"[a-c]"}, {"b"}},
+        {"a?b+c*", "a\\?b\\+c\\*", {"a?b+c*"}, {"abc", "bc"}},
+        {".*", "\\.\\*", {".*"}, {"", "a"}},
+        {"%.%", ".*\\..*", {".", "a.b"}, {"ab"}},
+        {"^a-b,c$", "^a-b,c$", {"^a-b,c$"}, {"a-b,c"}},
+        {"caf\xC3\xA9 __", "caf\xC3\xA9 ..", {"caf\xC3\xA9 12"}, {"cafe 12", "CAF\xC3\xA9 12"}},
+    };
+
+    for (size_t i = 0; i < sizeof rows / sizeof rows[0]; i++) {
+        imports(rows[i].pattern, rows[i].text);
+        for (size_t k = 0; k < NAMES && rows[i].accepted[k] != NULL; k++)
+            CHECK(covers(rows[i].text, 0, rows[i].accepted[k], strlen(rows[i].accepted[k])));
+        for (size_t k = 0; k < NAMES && rows[i].declined[k] != NULL; k++)
+            CHECK(!covers(rows[i].text, 0, rows[i].declined[k], strlen(rows[i].declined[k])));
+    }
+}
+
+/* Of a rule that was imported, which may hold any byte. */
+static bool accepts(const char *text, size_t length, uint8_t name_byte)
+{
+    const uint8_t *whole = lend_bytes(&text_room, &name_byte, 1);
+    jazhuppe_covered c = jazhuppe_covers(lend_bytes(&rule_room, text, length), length, 0, whole, 1);
+
+    CHECK(c.number == 0);
+    return c.covered == 1;
+}
+
+/* Each of the 256 as a pattern, and behind a \ ; then names of one byte. */
+static void test_each_byte_imported(void)
+{
+    for (int b = 0; b < 256; b++) {
+        const char alone[] = {(char)b}, behind[] = {'\\', (char)b};
+        bool taken = b != 0 && strchr("%_\\", b) != NULL, mark = b != 0 && strchr(".[]{}?+*\\", b) != NULL;
+        const char *text = b == '_' ? "." : mark ? behind : alone;
+        jazhuppe_text t = import(behind, 2, JAZHUPPE_IMPORT_BUFFER);
+
+        about("byte %d as a pattern", b);
+        if (taken)
+            CHECK(is_imported(behind, 2, JAZHUPPE_IMPORT_BUFFER, behind + !mark, 1 + mark));
+        else
+            CHECK(t.number == JAZHUPPE_LIKE && t.place == 0);
+        t = import(alone, 1, JAZHUPPE_IMPORT_BUFFER);
+        if (b == '%')
+            CHECK(t.number == JAZHUPPE_ADMITS_EMPTY && t.place == 2);
+        else if (b == '\\')
+            CHECK(t.number == JAZHUPPE_LIKE && t.place == 0);
+        else
+            CHECK(is_imported(alone, 1, JAZHUPPE_IMPORT_BUFFER, text, 1 + mark));
+        if (b == '%' || b == '\\')
+            continue;
+        CHECK(accepts(text, 1 + mark, (uint8_t)b));
+        for (int c = b % 8; c < 256; c += 8)
+            CHECK(accepts(text, 1 + mark, (uint8_t)c) == (c == b || b == '_'));
+    }
+}
+
+/* A row of one item, as many as there may be, and what makes it no longer optional. */
+static void imports_row(const char *item, size_t times, const char *back, const char *text_item, const char *text_back)
+{
+    begin();
+    put(long_rule, item, times);
+    put(long_rule, back, 1);
+    put(long_text, text_item, times);
+    put(long_text, text_back, 1);
+    imports(long_rule, long_text);
+}
+
+static void test_import_lengths(void)
+{
+    imports_row("%", 254, "a", ".*", "a");
+    CHECK(covers(long_text, 0, "a", 1) && covers(long_text, 0, "bca", 3) && !covers(long_text, 0, "ab", 2));
+    imports_row("\\%", 255, "", "%", "");
+    CHECK(covers(long_text, 0, long_text, 255) && !covers(long_text, 0, long_text, 254));
+    imports_row("_", 255, "", ".", "");
+    CHECK(covers(long_text, 0, long_rule, 255) && !covers(long_text, 0, long_rule, 254));
+    imports_row("a", 255, "", "a", "");
+    imports_row("a", 254, "%", "a", ".*");
+    imports_row("\\\\", 255, "", "\\\\", "");
+    imports_row(".", 255, "", "\\.", "");
+    CHECK(covers(long_text, 0, long_rule, 255));
+}
+
+/* Just long enough, one byte too short, and as long as the text alone. */
+static void test_import_buffer(void)
+{
+    CHECK(is_imported("%a", 2, JAZHUPPE_IMPORT_BUFFER, ".*a", 3));
+    CHECK(import("%a", 2, JAZHUPPE_IMPORT_BUFFER - 1).number == JAZHUPPE_TOO_SHORT);
+    CHECK(import("%a", 2, 3).number == JAZHUPPE_TOO_SHORT);
+}
+
 /* ---- refusals and limits */
 
 static void hold_refused(const char *spelt, const char *plan, uint32_t number, uint32_t place)
@@ -923,12 +1194,14 @@ static void hold_refused(const char *spelt, const char *plan, uint32_t number, u
     jazhuppe_prepared o = jazhuppe_open(rule, length, 0, NO_CODES, scan, JAZHUPPE_SCAN_WORDS);
     jazhuppe_answer a = jazhuppe_search(rule, length, 0, NO_CODES, text, text_len, list, text_len);
     jazhuppe_span s = jazhuppe_show(rule, length, 0, text, text_len, 0);
+    jazhuppe_covered c = jazhuppe_covers(rule, length, 0, text, text_len);
 
     about("%s is refused", spelt);
     CHECK(p.number == number && p.place == place && p.positions == 0 && p.shortest == 0);
     CHECK(o.number == number && o.place == place && o.positions == 0 && o.shortest == 0);
     CHECK(a.number == number && a.place == place && a.count == 0 && a.windows == 0);
     CHECK(s.from == text_len && s.to == text_len);
+    CHECK(c.number == number && c.place == place && c.covered == 0);
     CHECK(untouched(&scan_room) && untouched(&list_room));
 }
 
@@ -1133,6 +1406,14 @@ static void run_all(void)
     run("stored rules and their rewritings", test_rewritings);
     run("rewritings as long as may be", test_rewriting_lengths);
     run("rewritings of rules that were too long, and the fold flag", test_rewriting_old_answers);
+    run("whole names", test_covers);
+    run("whole names: any bytes", test_covers_any_bytes);
+    run("whole names: long rules", test_covers_long_rules);
+    run("whole names: all positions optional but one", test_covers_optional);
+    run("whole names: blocks, repeats and .* over each border", test_covers_over_borders);
+    run("LIKE patterns and their rules", test_imports);
+    run("LIKE: each byte as a pattern", test_each_byte_imported);
+    run("LIKE: patterns as long as may be", test_import_lengths);
     run("M7: a gap of unequal bounds at the front", test_M7);
     run("M12: the empty string is admitted", test_M12);
     run("an empty piece reports no end", test_empty_piece);
@@ -1141,6 +1422,7 @@ static void run_all(void)
     run("JAZHUPPE_FEED_LIST", test_held_most);
     run("JAZHUPPE_FINISH_LIST", test_finish_list);
     run("JAZHUPPE_REWRITE_BUFFER", test_rewrite_buffer);
+    run("JAZHUPPE_IMPORT_BUFFER", test_import_buffer);
     run("a search's list and a decoder's buffer", test_whole_lists);
     run("JAZHUPPE_RULE_MOST", test_rule_most);
     run("JAZHUPPE_POSITIONS_MOST", test_positions_most);

@@ -76,6 +76,11 @@ static bool same_text(jazhuppe_text t, uint32_t number, uint32_t place)
     return t.number == number && t.place == place && t.length == 0;
 }
 
+static bool same_covered(jazhuppe_covered c, uint32_t number, uint32_t place)
+{
+    return c.number == number && c.place == place && c.covered == 0;
+}
+
 /* A stored rule is judged by 1 to 8 alone, and after 9. */
 static void rewriting_refuses(const uint8_t *bytes, size_t length, uint32_t fold, uint32_t number, uint32_t place)
 {
@@ -92,7 +97,7 @@ static void rewriting_refuses(const uint8_t *bytes, size_t length, uint32_t fold
     CHECK(untouched_past(&list_room, t.length) && untouched(&rule_room));
 }
 
-/* Through prepare, open, search, show and rewrite; open and search are lent too little besides, or a code without a set,
+/* Through prepare, open, search, show, covers and rewrite; open and search are lent too little besides, or a code without a set,
  * which come later. */
 static void refuses(const uint8_t *bytes, size_t length, uint32_t fold, uint32_t number, uint32_t place)
 {
@@ -109,6 +114,8 @@ static void refuses(const uint8_t *bytes, size_t length, uint32_t fold, uint32_t
     CHECK(same_answer(jazhuppe_search(rule, length, fold, NO_CODES, text, 3, starts, 2), refusal(number, place)));
     CHECK(same_answer(jazhuppe_search(rule, length, fold, text, 1, NULL, 0, text, 3, starts, 3), refusal(number, place)));
     CHECK(shown.from == 3 && shown.to == 3);
+    CHECK(same_covered(jazhuppe_covers(rule, length, fold, text, 3), number, place));
+    CHECK(same_covered(jazhuppe_covers(rule, length, fold, NULL, 0), number, place));
     CHECK(untouched(&rule_room) && untouched(&text_room) && untouched(&scan_room) && untouched(&list_room));
     rewriting_refuses(bytes, length, fold, number, place);
 }
@@ -160,6 +167,77 @@ static void test_accepted_rules(void)
 
         about("rule %s", accepted_rules[i]);
         CHECK(p.number == 0 && p.place == 0 && p.positions >= p.shortest && p.shortest >= 1);
+    }
+}
+
+/* ---- patterns */
+
+/* After 9; the buffer stays as it was, however long it is. */
+static void import_refuses(const char *bytes, size_t length, uint32_t number, uint32_t place)
+{
+    static const size_t rooms[] = {0, 1, JAZHUPPE_IMPORT_BUFFER - 1, JAZHUPPE_IMPORT_BUFFER, 3 * JAZHUPPE_IMPORT_BUFFER};
+    const uint8_t *pattern = lend_bytes(&rule_room, bytes, length);
+
+    for (size_t i = 0; i < sizeof rooms / sizeof rooms[0]; i++) {
+        uint8_t *out = lend(&list_room, rooms[i]);
+        bool too_short = rooms[i] < JAZHUPPE_IMPORT_BUFFER;
+        jazhuppe_text t = jazhuppe_import_like(pattern, length, out, rooms[i]);
+
+        CHECK(same_text(t, too_short ? JAZHUPPE_TOO_SHORT : number, too_short ? 0 : place));
+        CHECK(untouched(&list_room) && untouched(&rule_room));
+    }
+}
+
+static void test_patterns(void)
+{
+    static const struct {
+        const char *pattern;
+        uint32_t number, place;
+    } rows[] = {
+        {"", 1, 0}, {"%", 8, 2}, {"%%", 8, 4}, {"%%%", 8, 6},
+        {"\\", 14, 0}, {"\\a", 14, 0}, {"\\.", 14, 0}, {"\\[", 14, 0}, {"\\^", 14, 0}, {"\\-", 14, 0}, {"\\\xC3", 14, 0},
+        {"a\\", 14, 1}, {"a\\b", 14, 1}, {"_\\", 14, 1}, {"\\\\\\", 14, 2}, {"\\\\\\a", 14, 2}, {"\\\\\\\\\\", 14, 4},
+        {"\\%\\", 14, 2}, {"\\_\\a", 14, 2}, {"\\%\\_\\\\\\ %", 14, 6},
+        /* The first of them; and before 8. */
+        {"\\a\\", 14, 0}, {"a\\b\\c", 14, 1}, {"%\\", 14, 1}, {"%%\\%%\\", 14, 5}, {"\\a%", 14, 0},
+    };
+
+    for (size_t i = 0; i < sizeof rows / sizeof rows[0]; i++) {
+        about("pattern %s", rows[i].pattern);
+        import_refuses(rows[i].pattern, strlen(rows[i].pattern), rows[i].number, rows[i].place);
+    }
+}
+
+/* So many times an item, and one more: 14 wherever it stands, then 2, then 7, then 8. */
+static void test_long_patterns(void)
+{
+    static const struct {
+        const char *item;
+        size_t times;
+        const char *back;
+        uint32_t number, place;
+    } rows[] = {
+        {"%", 255, "", 8, 510}, {"%", 256, "", 7, 510}, {"%", 511, "", 7, 510}, {"%", 512, "", 2, 1023},
+        {"%", 255, "a", 7, 510}, {"%", 511, "a", 7, 510}, {"%", 511, "%", 2, 1023}, {"%", 511, "_a", 2, 1023},
+        {"a", 256, "", 7, 255}, {"a", 1023, "", 7, 255}, {"a", 1024, "", 2, 1023}, {"a", 1022, "%", 2, 1023},
+        {"a", 1022, ".", 2, 1023}, {"a", 1022, "\\%", 7, 255}, {"a", 255, "%", 7, 255}, {"_", 256, "", 7, 255},
+        {"_", 1023, "", 7, 255}, {"_", 1024, "", 2, 1023}, {".", 256, "", 7, 510}, {".", 511, "a", 7, 510},
+        {".", 512, "", 2, 1023}, {"\\%", 256, "", 7, 255}, {"\\%", 1023, "", 7, 255}, {"\\%", 1024, "", 2, 1023},
+        {"\\\\", 256, "", 7, 510}, {"\\\\", 512, "", 2, 1023}, {"a%", 127, "bcd", 7, 382}, {"a%", 128, "", 7, 382},
+        {"%", 2000, "", 2, 1023}, {"a", 2000, "", 2, 1023},
+        {"a", 255, "\\", 14, 255}, {"a", 256, "\\", 14, 256}, {"a", 1023, "\\", 14, 1023}, {"a", 1100, "\\", 14, 1100},
+        {"a", 2000, "\\", 14, 2000}, {"a", 2000, "\\b", 14, 2000}, {"%", 2000, "\\a%", 14, 2000}, {"\\%", 1000, "\\", 14, 2000},
+        {"\\\\", 1000, "\\.", 14, 2000}, {".", 2000, "\\", 14, 2000},
+    };
+
+    for (size_t i = 0; i < sizeof rows / sizeof rows[0]; i++) {
+        char pattern[2100] = "";
+
+        for (size_t n = 0; n < rows[i].times; n++)
+            strcat(pattern, rows[i].item);
+        strcat(pattern, rows[i].back);
+        about("pattern of %zu %s and %s", rows[i].times, rows[i].item, rows[i].back);
+        import_refuses(pattern, strlen(pattern), rows[i].number, rows[i].place);
     }
 }
 
@@ -462,6 +540,20 @@ static void test_null_rewriting(void)
     CHECK(untouched(&list_room) && untouched(&rule_room));
 }
 
+static void test_null_names(void)
+{
+    uint8_t *out = lend(&list_room, JAZHUPPE_IMPORT_BUFFER);
+    const uint8_t *bytes = lend_bytes(&rule_room, "a", 1);
+
+    CHECK(same_covered(jazhuppe_covers(NULL, 0, 0, NULL, 0), JAZHUPPE_RULE_EMPTY, 0));
+    CHECK(same_covered(jazhuppe_covers(NULL, 0, 0, bytes, 1), JAZHUPPE_RULE_EMPTY, 0));
+    CHECK(same_covered(jazhuppe_covers(bytes, 1, 0, NULL, 0), 0, 0));
+    CHECK(same_text(jazhuppe_import_like(NULL, 0, NULL, 0), JAZHUPPE_TOO_SHORT, 0));
+    CHECK(same_text(jazhuppe_import_like(bytes, 1, NULL, 0), JAZHUPPE_TOO_SHORT, 0));
+    CHECK(same_text(jazhuppe_import_like(NULL, 0, out, JAZHUPPE_IMPORT_BUFFER), JAZHUPPE_RULE_EMPTY, 0));
+    CHECK(untouched(&list_room) && untouched(&rule_room));
+}
+
 static void test_show(void)
 {
     const uint8_t *rule = lend_bytes(&rule_room, "a", 1), *text = lend_bytes(&text_room, "ba", 2);
@@ -481,6 +573,8 @@ static void run_all(void)
     run("2 of a rule, before any other fault", test_long_rules);
     run("3: a class left with no byte, and the fold flag", test_classes_left_empty);
     run("rules that pass", test_accepted_rules);
+    run("14, 1 and 8 of a pattern, after 9", test_patterns);
+    run("14, then 2, then 7, then 8 of a long pattern", test_long_patterns);
     run("15: its answer, place 0", test_codes_answer);
     run("15: more than 8 codes", test_codes_most);
     run("15: sets that are not 32 bytes for each code", test_sets_length);
@@ -494,6 +588,7 @@ static void run_all(void)
     run("a scan call checks 11, 12, 10, 9", test_order_of_scan_calls);
     run("NULL with length 0", test_null);
     run("NULL with length 0, rewriting", test_null_rewriting);
+    run("NULL with length 0, whole names and patterns", test_null_names);
     run("show gives no number", test_show);
 }
 

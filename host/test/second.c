@@ -303,6 +303,65 @@ second_rewriting second_rewritten(const uint8_t *rule, size_t rule_len)
     return w;
 }
 
+/* ---- LIKE */
+
+/* The place of the first \ that stands last or before another byte than %, _ or \ ; the length where there is none. */
+static size_t bad_backslash(const uint8_t *pattern, size_t length)
+{
+    for (size_t at = 0; at < length; at++) {
+        if (pattern[at] != '\\')
+            continue;
+        if (at + 1 == length || !among(pattern[at + 1], "%_\\"))
+            return at;
+        at++;
+    }
+    return length;
+}
+
+/* The rule's text, however long: its length. */
+static size_t put_imported(const uint8_t *pattern, size_t length, uint8_t *text)
+{
+    size_t wrote = 0;
+
+    for (size_t at = 0; at < length; at++) {
+        if (pattern[at] == '%') {
+            text[wrote++] = '.';
+            text[wrote++] = '*';
+        } else if (pattern[at] == '_') {
+            text[wrote++] = '.';
+        } else {
+            at += pattern[at] == '\\';
+            if (is_mark(pattern[at]))
+                text[wrote++] = '\\';
+            text[wrote++] = pattern[at];
+        }
+    }
+    return wrote;
+}
+
+/* For each count of the name's first bytes, whether what has been read of the pattern accepts them. */
+bool second_like(const uint8_t *pattern, size_t pattern_len, const uint8_t *name, size_t name_len)
+{
+    bool accepted[SECOND_PLAN_MOST + 1] = {true};
+
+    if (name_len > SECOND_PLAN_MOST)
+        abort();
+    for (size_t at = 0; at < pattern_len; at++) {
+        bool any = pattern[at] == '_';
+
+        if (pattern[at] == '%') {
+            for (size_t n = 1; n <= name_len; n++)
+                accepted[n] = accepted[n] || accepted[n - 1];
+            continue;
+        }
+        at += pattern[at] == '\\';
+        for (size_t n = name_len; n > 0; n--)
+            accepted[n] = accepted[n - 1] && (any || name[n - 1] == pattern[at]);
+        accepted[0] = false;
+    }
+    return accepted[name_len];
+}
+
 /* ---- codes */
 
 /* Bit x % 8, the lowest being 0, of byte x / 8 stands for x. */
@@ -696,7 +755,7 @@ jazhuppe_prepared second_prepare(const uint8_t *rule, size_t rule_len, uint32_t 
     return prepared(&read);
 }
 
-static jazhuppe_text rewriting(uint32_t number, uint32_t place, size_t length)
+static jazhuppe_text written(uint32_t number, uint32_t place, size_t length)
 {
     jazhuppe_text t = {number, place, (uint32_t)length};
 
@@ -709,14 +768,37 @@ jazhuppe_text second_rewrite(const uint8_t *rule, size_t rule_len, uint32_t fold
     second_rewriting w;
 
     if (out_len < JAZHUPPE_REWRITE_BUFFER)
-        return rewriting(JAZHUPPE_TOO_SHORT, 0, 0);
+        return written(JAZHUPPE_TOO_SHORT, 0, 0);
     if (read.number != 0)
-        return rewriting(read.number, read.place, 0);
+        return written(read.number, read.place, 0);
     w = second_rewritten(rule, rule_len);
     if (w.length > JAZHUPPE_RULE_MOST)
-        return rewriting(JAZHUPPE_RULE_LONG, JAZHUPPE_RULE_MOST, 0);
+        return written(JAZHUPPE_RULE_LONG, JAZHUPPE_RULE_MOST, 0);
     memcpy(out, w.text, w.length);
-    return rewriting(0, 0, w.length);
+    return written(0, 0, w.length);
+}
+
+/* The text is made whole, and read as any rule is. */
+jazhuppe_text second_import_like(const uint8_t *pattern, size_t pattern_len, uint8_t *out, size_t out_len)
+{
+    static uint8_t text[2 * SECOND_PATTERN_MOST];
+    second_rule read;
+    size_t length;
+
+    if (out_len < JAZHUPPE_IMPORT_BUFFER)
+        return written(JAZHUPPE_TOO_SHORT, 0, 0);
+    if (pattern_len > JAZHUPPE_TEXT_MOST)
+        return written(JAZHUPPE_TOO_MUCH, 0, 0);
+    if (pattern_len > SECOND_PATTERN_MOST)
+        abort();
+    if (bad_backslash(pattern, pattern_len) < pattern_len)
+        return written(JAZHUPPE_LIKE, (uint32_t)bad_backslash(pattern, pattern_len), 0);
+    length = put_imported(pattern, pattern_len, text);
+    read = second_read(text, length, 0);
+    if (read.number != 0)
+        return written(read.number, read.place, 0);
+    memcpy(out, text, length);
+    return written(0, 0, length);
 }
 
 jazhuppe_prepared second_open(const uint8_t *rule, size_t rule_len, uint32_t fold, const uint8_t *codes,
@@ -813,4 +895,16 @@ jazhuppe_span second_show(const uint8_t *rule, size_t rule_len, uint32_t fold, c
         return none;
     shown.to = earliest_end(&read, text, text_len, start);
     return shown.to == 0 ? none : shown;
+}
+
+jazhuppe_covered second_covers(const uint8_t *rule, size_t rule_len, uint32_t fold, const uint8_t *name, size_t name_len)
+{
+    second_rule read = second_read(rule, rule_len, fold);
+    jazhuppe_covered c = {read.number, read.place, 0};
+
+    if (read.number == 0 && name_len > JAZHUPPE_TEXT_MOST)
+        c.number = JAZHUPPE_TOO_MUCH;
+    else if (read.number == 0)
+        c.covered = fills(cuts_from(&read, name, name_len, 0), read.count, name_len);
+    return c;
 }

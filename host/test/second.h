@@ -1,6 +1,6 @@
 /* second.h: a second implementation, straight from the definitions: occurrences by cutting into shares, references by
  * spelling, codes by what two sets share, a scan that keeps all bytes taken, a rewriting that reads the whole text anew
- * before each step. No masks, no states. For small plans. */
+ * before each step, an import whose text is read as a rule, LIKE without rules. No masks, no states. For small plans. */
 #ifndef SECOND_H
 #define SECOND_H
 
@@ -34,6 +34,9 @@ typedef struct {
     size_t length;
     unsigned front, back; /* the steps that were taken */
 } second_rewriting;
+
+/* A LIKE pattern may be so long, its text twice as long: well past the limit. */
+enum { SECOND_PATTERN_MOST = 4096 };
 
 /* The plain scan: the rule, the bytes taken, and whether it has finished. */
 typedef struct {
@@ -73,8 +76,12 @@ void second_filled(const second_rule *rule, const uint8_t *text, size_t text_len
 size_t second_ends(const second_rule *rule, const uint8_t *text, size_t text_len, uint32_t *ends);
 size_t second_starts(const second_rule *rule, const uint8_t *text, size_t text_len, uint32_t *starts);
 
+/* Whether SQL's LIKE accepts the name, case respected, by a pattern in which every \ stands before %, _ or \ . */
+bool second_like(const uint8_t *pattern, size_t pattern_len, const uint8_t *name, size_t name_len);
+
 jazhuppe_prepared second_prepare(const uint8_t *rule, size_t rule_len, uint32_t fold);
 jazhuppe_text second_rewrite(const uint8_t *rule, size_t rule_len, uint32_t fold, uint8_t *out, size_t out_len);
+jazhuppe_text second_import_like(const uint8_t *pattern, size_t pattern_len, uint8_t *out, size_t out_len);
 jazhuppe_prepared second_open(const uint8_t *rule, size_t rule_len, uint32_t fold, const uint8_t *codes,
                               size_t codes_len, const uint8_t *sets, size_t sets_len, second_scan *scan);
 jazhuppe_answer second_feed(second_scan *scan, const uint8_t *piece, size_t piece_len, uint32_t *ends, size_t ends_len);
@@ -85,5 +92,6 @@ jazhuppe_answer second_search(const uint8_t *rule, size_t rule_len, uint32_t fol
                               size_t text_len, uint32_t *starts, size_t starts_len);
 jazhuppe_span second_show(const uint8_t *rule, size_t rule_len, uint32_t fold, const uint8_t *text, size_t text_len,
                           size_t start);
+jazhuppe_covered second_covers(const uint8_t *rule, size_t rule_len, uint32_t fold, const uint8_t *name, size_t name_len);
 
 #endif

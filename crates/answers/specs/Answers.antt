@@ -1,8 +1,10 @@
 -- The answers of the calls: a refusal, or a finished result. Assumes nothing.
+use mathlib.Core.Bool.{Bool, cond}
 use Prim.Native.Nat.{ℕ}
 use Rattle.answers.specs.declared.Answer.{Answer}
 use Rattle.answers.specs.declared.Opened.{Opened}
 use Rattle.answers.specs.declared.Text.{Text}
+use Rattle.answers.specs.declared.Covered.{Covered}
 
 -- "Every refusal has zero counts beside its number and place, place 0 where none is given"
 abbrev pub refusing : (number place : ℕ) → Answer
@@ -23,3 +25,9 @@ refusingText n p = record { number = n; place = p; length = 0 }
 
 abbrev pub writtenText : (length : ℕ) → Text
 writtenText n = record { number = 0; place = 0; length = n }
+
+abbrev pub refusingName : (number place : ℕ) → Covered
+refusingName n p = record { number = n; place = p; covered = 0 }
+
+abbrev pub judgedName : Bool → Covered
+judgedName b = record { number = 0; place = 0; covered = cond b 1 0 }

@@ -1,12 +1,12 @@
 // What the calls answer a host, and the numbers of their refusals (document 01, "Numbered answers"). `model` has
 // the same numbers, and the header for a host.
 ghost use mathlib.Core.Path.{_≡_};
-ghost use Rattle.answers.specs.Answers.{refusing, counting, refusingRule, acceptingRule, refusingText, writtenText};
+ghost use Rattle.answers.specs.Answers.{refusing, counting, refusingRule, acceptingRule, refusingText, writtenText, refusingName, judgedName};
 
 // "rule of length 0"
 pub const RULE_EMPTY: u32 = 1;
 
-// "rule over 1,023 bytes"
+// "rule, a rewriter's finished text, or an imported pattern's rule text, over 1,023 bytes"
 pub const RULE_LONG: u32 = 2;
 
 // "class unclosed, empty, with a reversed range, a bad `\` or misplaced `-`, or left with no byte"
@@ -30,7 +30,7 @@ pub const ADMITS_EMPTY: u32 = 8;
 // "list or buffer too short"
 pub const TOO_SHORT: u32 = 9;
 
-// "more than 4,294,967,295 bytes in the text, or in all the pieces"
+// "more than 4,294,967,295 bytes in the text, the name or the pattern, or in all the pieces"
 pub const TOO_MUCH: u32 = 10;
 
 // "impossible scan value"
@@ -38,6 +38,9 @@ pub const IMPOSSIBLE: u32 = 11;
 
 // "scan already finished"
 pub const ALREADY_FINISHED: u32 = 12;
+
+// "a LIKE backslash stands last or before another byte"
+pub const LIKE_FAULT: u32 = 14;
 
 // "there are more than 8 codes, the sets are not 32 bytes for each code, a code is named twice, a set is empty or holds a
 // code, or a position holds codes alone"
@@ -70,6 +73,14 @@ pub struct Text {
     pub number: u32,
     pub place: u32,
     pub length: u32,
+}
+
+// What asking whether a rule covers a name answers: `covered` is 1 or 0.
+#[repr(C)]
+pub struct Covered {
+    pub number: u32,
+    pub place: u32,
+    pub covered: u32,
 }
 
 // A part of a text, as its two places.
@@ -146,5 +157,34 @@ pub fn written(length: u32) -> Text
         number: 0,
         place: 0,
         length: length,
+    }
+}
+
+// Nothing is said of the name.
+pub fn refused_name(number: u32, place: u32) -> Covered
+    ensures { λ r. ⌜ r ≡ refusingName number place ⌝ }
+{
+    Covered {
+        number: number,
+        place: place,
+        covered: 0,
+    }
+}
+
+// A name is covered, or it is not.
+pub fn judged_name(covers: bool) -> Covered
+    ensures { λ r. ⌜ r ≡ judgedName covers ⌝ }
+{
+    if covers {
+        return Covered {
+            number: 0,
+            place: 0,
+            covered: 1,
+        };
+    }
+    Covered {
+        number: 0,
+        place: 0,
+        covered: 0,
     }
 }

@@ -2,3 +2,4 @@
 pub mod Prepares
 pub mod MadeCalls
 pub mod Agreement
+pub mod LikeLists

@@ -4,9 +4,12 @@ ghost use Rattle.scan_open.specs.Opening.{OpenIs};
 ghost use Rattle.scan.specs.Calls.{FeedIs, FinishIs};
 ghost use Rattle.jazhuppe.specs.Preparing.{PrepareIs};
 ghost use Rattle.rule_rewriter.specs.Rewriting.{RewriteIs};
+ghost use Rattle.like_importer.specs.Importing.{ImportIs};
+ghost use Rattle.whole_match.specs.Covering.{CoversIs};
 ghost use Rattle.text_search.specs.Searching.{SearchIs};
 ghost use Rattle.text_show.specs.Showing.{ShownIs};
 use answers::Answer;
+use answers::Covered;
 use answers::Opened;
 use answers::Span;
 use answers::Text;
@@ -31,6 +34,22 @@ pub extern "C" fn jazhuppe_rewrite(rule: &[u8], fold: u32, out: &mut [u8]) -> Te
     ensures { λ r. ⌜ RewriteIs fold (now (rule .entry)) (now (out .entry)) r (now (out .exit)) ⌝ }
 {
     rule_rewriter::rewrite(rule, fold, out)
+}
+
+// Imports a LIKE pattern as a rule.
+#[no_mangle]
+pub extern "C" fn jazhuppe_import_like(pattern: &[u8], out: &mut [u8]) -> Text
+    ensures { λ r. ⌜ ImportIs (now (pattern .entry)) (now (out .entry)) r (now (out .exit)) ⌝ }
+{
+    like_importer::import_like(pattern, out)
+}
+
+// Says whether a rule covers a whole name.
+#[no_mangle]
+pub extern "C" fn jazhuppe_covers(rule: &[u8], fold: u32, name: &[u8]) -> Covered
+    ensures { λ r. ⌜ CoversIs fold (now (rule .entry)) (now (name .entry)) r ⌝ }
+{
+    whole_match::covers_name(rule, fold, name)
 }
 
 // Opens a scan for a rule with codes.

@@ -13,7 +13,7 @@ pub const FORM_LIMIT: usize = 32;
 // "at most 31 bytes" are held back between pieces: one less than a form has.
 pub const HELD_MOST: usize = FORM_LIMIT - 1;
 
-// "more than 4,294,967,295 bytes in the text, or in all the pieces" are refused.
+// "more than 4,294,967,295 bytes in the text, the name or the pattern, or in all the pieces" are refused.
 pub const TEXT_LIMIT: usize = 4_294_967_295;
 
 // "up to 8 such codes"

@@ -220,7 +220,7 @@ share-begins p c cs y ys (longer {c = d} {cs = ds} r h k) e =
     let a : T (all (p .set) (c ∷ cs)) = all-left (p .set) (c ∷ cs) (y ∷ ys) (subst (λ (l : List ℕ). T (all (p .set) l)) e (and-intro (p .set d) (all (p .set) ds) h k)) in
     longer r (and-left (p .set c) (all (p .set) cs) a) (and-right (p .set c) (all (p .set) cs) a)
 
-empty-is : (u : List ℕ) → T (isEmpty u) → u ≡ []
+pub empty-is : (u : List ℕ) → T (isEmpty u) → u ≡ []
 empty-is [] t = refl
 empty-is (c ∷ cs) t = absurd t
 

@@ -1,8 +1,8 @@
 -- Sentences and edges of document 01 as closed cases of the definitions, by computing: rules that are refused or accepted, references, held tails, the
--- lister's example, a plan cut inside `&amp;`, moves of windows, what is shown, codes, and stored rules rewritten. (M1 to M12 are in `MarkedTable`, rules as long as may
--- be in the crate `rule_spelling`.) Assumes nothing.
+-- lister's example, a plan cut inside `&amp;`, moves of windows, what is shown, codes, stored rules rewritten, whole names and LIKE patterns. (M1 to M12 are in `MarkedTable`,
+-- rules and patterns as long as may be in the crate `rule_spelling`.) Assumes nothing.
 use mathlib.Core.Path.{_≡_, refl}
-use mathlib.Core.Bool.{Bool, true, false, _&&_}
+use mathlib.Core.Bool.{Bool, true, false, not, _&&_}
 use mathlib.Core.List.{List, [], _∷_, _++_, map}
 use Prim.Native.Nat.{ℕ, zero, suc, _+_, _*_}
 use lib.Dec.{T, eqb}
@@ -10,8 +10,10 @@ use lib.ListN.{length, replicate}
 use Rattle.model.specs.Ascii.{ascii}
 use Rattle.model.specs.Occurrence.{Position, oneIf, shortest, isStart, ends, starts}
 use Rattle.model.specs.RuleText.{foldFlag, oneOf, otherCase, kindSet, class, byte, gap, once, optional, repeatable}
-use Rattle.model.specs.NumberedAnswers.{accepted, parse, rulePositions, wholeRefusal, overwrite}
-use Rattle.model.specs.Rewriter.{Rewrite, turnsDown, writes, rewrite}
+use Rattle.model.specs.NumberedAnswers.{accepted, parse, rulePositions, wholeRefusal, overwrite, TextAnswer, turnsDown, writes}
+use Rattle.model.specs.Rewriter.{rewrite}
+use Rattle.model.specs.WholeNames.{CoverAnswer, turnsDown, says, covered}
+use Rattle.model.specs.Like.{LikePattern, misspelt, pattern, like, isLike, imported}
 use Rattle.model.specs.Codes.{setBytes, inSet, smudged, parseWith}
 use Rattle.model.specs.References.{formLimit, utf8, byteTokens, tokensFrom, decode, heldTail, outTokens, letOut}
 use Rattle.model.specs.PlainScan.{Call, feed, finish, Answer, refused, reported, refusalFor, plainScan, reportedEnds}
@@ -412,11 +414,11 @@ pub data Stored : Type 0 where
   becomes : (rule text : List ℕ) → Stored
   turned : (fold : Bool) (rule : List ℕ) (lent number place : ℕ) → Stored
 
-abbrev pub writesSo : Rewrite → List ℕ → Bool
+abbrev pub writesSo : TextAnswer → List ℕ → Bool
 writesSo (turnsDown n p) text = false
 writesSo (writes t) text = same t text
 
-abbrev pub turnsSo : Rewrite → (number place : ℕ) → Bool
+abbrev pub turnsSo : TextAnswer → (number place : ℕ) → Bool
 turnsSo (turnsDown n p) number place = eqb n number && eqb p place
 turnsSo (writes t) number place = false
 
@@ -449,3 +451,73 @@ stored : T (storedHold (
     ∷ []
     ))
 stored = tt
+
+-- ---- whole names
+
+names : (covered 0 (ascii "ab?") (ascii "a") ≡ says true)
+    × (covered 0 (ascii "ab?") (ascii "abx") ≡ says false)  -- "to last"
+    × (covered 0 (ascii "b") (ascii "ab") ≡ says false)  -- "from first byte"
+    × (covered 0 (ascii "ab") (ascii "AB") ≡ says false)
+    × (covered 1 (ascii "ab") (ascii "AB") ≡ says true)
+    × (covered 0 (ascii "a.*b") (ascii "abab") ≡ says true)
+    × (covered 0 (ascii "ab?") [] ≡ says false)
+    × (covered 0 (ascii "a&b") (ascii "a&amp;b") ≡ says false)  -- "undecoded"
+    × (covered 0 (ascii "a?") (ascii "a") ≡ turnsDown 8 2)
+    × (covered 0 (ascii "a{1,2}") (ascii "ab") ≡ turnsDown 16 1)
+names = (refl, refl, refl, refl, refl, refl, refl, refl, refl, refl)
+
+-- ---- LIKE patterns
+
+pub data Pattern : Type 0 where
+  imports : (pattern text : List ℕ) → Pattern
+  turnedDown : (pattern : List ℕ) (lent number place : ℕ) → Pattern
+  likes : (pattern name : List ℕ) → Pattern
+  dislikes : (pattern name : List ℕ) → Pattern
+
+abbrev pub likedBy : LikePattern → List ℕ → Bool
+likedBy (misspelt p) name = false
+likedBy (pattern is) name = isLike is name
+
+abbrev pub saysSo : CoverAnswer → Bool
+saysSo (turnsDown n p) = false
+saysSo (says b) = b
+
+abbrev pub coversSo : TextAnswer → List ℕ → Bool
+coversSo (turnsDown n p) name = false
+coversSo (writes t) name = saysSo (covered 0 t name)
+
+-- Whether LIKE accepts a name, and whether the imported rule covers it.
+abbrev pub patternsHold : List Pattern → Bool
+patternsHold [] = true
+patternsHold (imports cs text ∷ rest) = writesSo (imported cs 1023) text && patternsHold rest
+patternsHold (turnedDown cs lent n p ∷ rest) = turnsSo (imported cs lent) n p && patternsHold rest
+patternsHold (likes cs name ∷ rest) = likedBy (like cs) name && coversSo (imported cs 1023) name && patternsHold rest
+patternsHold (dislikes cs name ∷ rest) = not (likedBy (like cs) name) && not (coversSo (imported cs 1023) name) && patternsHold rest
+
+patterns : T (patternsHold (
+    imports (ascii "Row _-%") (ascii "Row .-.*")
+    ∷ imports (ascii "a.b[c]{1,2}?+*]}") (ascii "a\\.b\\[c\\]\\{1,2\\}\\?\\+\\*\\]\\}")
+    ∷ imports (ascii "\\%\\_\\\\^-,0") (ascii "%_\\\\^-,0")
+    ∷ imports (0 ∷ 10 ∷ 255 ∷ []) (0 ∷ 10 ∷ 255 ∷ [])
+    ∷ likes (ascii "Row %") (ascii "Row ")
+    ∷ likes (ascii "Row %") (ascii "Row 12")
+    ∷ dislikes (ascii "Row %") (ascii "row 12")  -- "case respected"
+    ∷ dislikes (ascii "Row %") (ascii "A Row 12")
+    ∷ likes (ascii "_%b") (ascii "a&amp;b")  -- "undecoded"
+    ∷ dislikes (ascii "a.b") (ascii "axb")
+    ∷ likes (ascii "%a%a%") (ascii "xaax")
+    ∷ dislikes (ascii "%a%a%") (ascii "xax")
+    ∷ dislikes (ascii "_") (195 ∷ 169 ∷ [])  -- "one byte"
+    ∷ likes (ascii "\\%%") (ascii "%x")
+    ∷ turnedDown (ascii "a\\") 1023 14 1  -- "last"
+    ∷ turnedDown (ascii "\\a\\") 1023 14 0  -- "the first such"
+    ∷ turnedDown (ascii "%\\.") 1023 14 1  -- "before another byte", a mark too
+    ∷ turnedDown (ascii "\\\\\\") 1023 14 2
+    ∷ turnedDown (ascii "%\\") 1023 14 1  -- before 8
+    ∷ turnedDown (ascii "a\\") 1022 9 0
+    ∷ turnedDown [] 1023 1 0
+    ∷ turnedDown (ascii "%") 1023 8 2
+    ∷ turnedDown (ascii "%%%") 1023 8 6
+    ∷ []
+    ))
+patterns = tt

@@ -1,5 +1,5 @@
--- The seat-rule finder: document 01 as definitions, a file for each of its sections ("Forward step" is in the crate `shift_and`), the codes of note 9, and the rewriter of note 10. `Examples`
--- are closed cases of them.
+-- The seat-rule finder: document 01 as definitions, a file for each of its sections ("Forward step" is in the crate `shift_and`), the codes of note 9, the rewriter of note 10,
+-- and whole names and LIKE of note 2. `Examples` are closed cases of them.
 pub mod Ascii
 pub mod Occurrence
 pub mod RefusalNumbers
@@ -7,6 +7,8 @@ pub mod RuleText
 pub mod Spelling
 pub mod NumberedAnswers
 pub mod Rewriter
+pub mod WholeNames
+pub mod Like
 pub mod Codes
 pub mod References
 pub mod PlainScan

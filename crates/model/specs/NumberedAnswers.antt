@@ -1,5 +1,5 @@
--- Document 01, "Numbered answers": rows 1 to 8 and 16 and their order, rows 9 and 10 of whole-text calls, and lists at exit. (Rows 9, 10 and 12 of the scan
--- calls stand in `PlainScan`.) Assumes nothing.
+-- Document 01, "Numbered answers": rows 1 to 8 and 16 and their order, rows 9 and 10 of whole-text calls, and lists and buffers at exit. (Rows 9, 10 and 12 of the scan
+-- calls stand in `PlainScan`, row 14 in `Like`, row 15 in `Codes`.) Assumes nothing.
 use mathlib.Core.Bool.{Bool, true, false, cond}
 use mathlib.Core.List.{List, [], _∷_, _++_}
 use Prim.Native.Nat.{ℕ, zero, suc, pred, _+_}
@@ -10,7 +10,7 @@ use Rattle.model.specs.Occurrence.{Position, shortest}
 use Rattle.model.specs.RuleText.{ruleLimit, positionLimit, Element, positions, size, bad, good, kindAt, oftenAfter, markBytes}
 use Rattle.model.specs.Spelling.{Outer, inner, outerAt, outer, spelled}
 
--- Row 10: "more than 4,294,967,295 bytes in the text, or in all the pieces".
+-- Row 10: "more than 4,294,967,295 bytes in the text, the name or the pattern, or in all the pieces".
 abbrev pub textLimit : ℕ
 textLimit = 4294967295
 
@@ -43,7 +43,7 @@ abbrev pub orEmpty : (fold : Bool) → List ℕ → Parsed → Parsed
 orEmpty fold rule (refused n p) = refused n p
 orEmpty fold rule (accepted es) = cond (eqb (shortest (positions fold es)) 0) (refused admitsEmpty (length rule)) (accepted es)
 
--- Row 1, "place 0": "rule of length 0". Row 2, "place 1,023": "rule over 1,023 bytes". "1 and 2 come first, then the leftmost of 3 to 7 .., then 8." For any
+-- Row 1, "place 0": "rule of length 0". Row 2, "place 1,023": "rule .. over 1,023 bytes". "1 and 2 come first, then the leftmost of 3 to 7 .., then 8." For any
 -- limits of a rule's length and positions, and for those of this paper.
 abbrev pub parseWithin : (longest most : ℕ) (fold : Bool) → List ℕ → Parsed
 parseWithin longest most fold rule =
@@ -84,3 +84,13 @@ wholeRefusal text lent = cond (ltb textLimit text) tooMuch (cond (ltb lent text)
 -- "Past the reported entries a list is untouched too": a lent list or buffer at exit, where it reports `entries`.
 abbrev pub overwrite : (lent entries : List ℕ) → List ℕ
 overwrite lent entries = entries ++ drop (length entries) lent
+
+-- What a call answers that writes a rule's text to a lent buffer: a refusal, or the text.
+pub data TextAnswer : Type 0 where
+  turnsDown : (number place : ℕ) → TextAnswer
+  writes : (text : List ℕ) → TextAnswer
+
+-- "after a refusal everything lent is as before": the buffer at exit.
+abbrev pub textBuffer : TextAnswer → (lent : List ℕ) → List ℕ
+textBuffer (turnsDown n p) lent = lent
+textBuffer (writes text) lent = overwrite lent text

@@ -5,7 +5,7 @@ use Prim.Native.Nat.{ℕ}
 abbrev pub ruleEmpty : ℕ
 ruleEmpty = 1
 
--- "rule over 1,023 bytes"
+-- "rule, a rewriter's finished text, or an imported pattern's rule text, over 1,023 bytes"
 abbrev pub ruleLong : ℕ
 ruleLong = 2
 
@@ -37,7 +37,7 @@ admitsEmpty = 8
 abbrev pub tooShort : ℕ
 tooShort = 9
 
--- "more than 4,294,967,295 bytes in the text, or in all the pieces"
+-- "more than 4,294,967,295 bytes in the text, the name or the pattern, or in all the pieces"
 abbrev pub tooMuch : ℕ
 tooMuch = 10
 
@@ -48,6 +48,10 @@ impossible = 11
 -- "scan already finished"
 abbrev pub alreadyFinished : ℕ
 alreadyFinished = 12
+
+-- "a LIKE backslash stands last or before another byte"
+abbrev pub likeFault : ℕ
+likeFault = 14
 
 -- "there are more than 8 codes, the sets are not 32 bytes for each code, a code is named twice, a set is empty or holds a code, or a position holds codes alone"
 abbrev pub codesFault : ℕ

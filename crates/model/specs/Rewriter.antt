@@ -8,7 +8,7 @@ use Rattle.model.specs.RefusalNumbers.{ruleLong, tooShort}
 use Rattle.model.specs.Ascii.{ascii}
 use Rattle.model.specs.RuleText.{ruleLimit, Kind, byte, any, class, gap, once}
 use Rattle.model.specs.Spelling.{Spelled, spelled, textBy}
-use Rattle.model.specs.NumberedAnswers.{Parsed, refused, accepted, parseStored}
+use Rattle.model.specs.NumberedAnswers.{Parsed, refused, accepted, parseStored, TextAnswer, turnsDown, writes}
 
 -- "a dots"; they stand at no place of the stored rule
 abbrev pub dot : Spelled
@@ -50,20 +50,15 @@ bothDone fold rule = fromBack (frontDone fold rule)
 abbrev pub rewritten : (fold : Bool) → List ℕ → List ℕ
 rewritten fold rule = textBy (bothDone fold rule)
 
--- What a rewriting answers: a refusal, or a text.
-pub data Rewrite : Type 0 where
-  turnsDown : (number place : ℕ) → Rewrite
-  writes : (text : List ℕ) → Rewrite
-
 -- "one whose finished text is past the length limit gets 2"
-abbrev pub finishedText : List ℕ → Rewrite
+abbrev pub finishedText : List ℕ → TextAnswer
 finishedText text = cond (ltb ruleLimit (length text)) (turnsDown ruleLong ruleLimit) (writes text)
 
 -- "text that was never a rule gets its old answer"
-abbrev pub rewriteBy : (fold : Bool) (rule : List ℕ) → Parsed → Rewrite
+abbrev pub rewriteBy : (fold : Bool) (rule : List ℕ) → Parsed → TextAnswer
 rewriteBy fold rule (refused n p) = turnsDown n p
 rewriteBy fold rule (accepted es) = finishedText (rewritten fold rule)
 
 -- "Its buffer is at least 1,023 bytes, shorter getting 9 first": as many as a rule may have.
-abbrev pub rewrite : (fold : Bool) (rule : List ℕ) (lent : ℕ) → Rewrite
+abbrev pub rewrite : (fold : Bool) (rule : List ℕ) (lent : ℕ) → TextAnswer
 rewrite fold rule lent = cond (ltb lent ruleLimit) (turnsDown tooShort 0) (rewriteBy fold rule (parseStored fold rule))

@@ -13,20 +13,21 @@ use Rattle.model.specs.Occurrence.{stretch}
 use Rattle.model.specs.RuleText as Model
 use Rattle.model.specs.RuleText.{foldFlag, ruleLimit, positionLimit}
 use Rattle.model.specs.Spelling.{Spelled, textBy}
-use Rattle.model.specs.NumberedAnswers.{Parsed, refused, accepted, parseStored, overwrite}
-use Rattle.model.specs.Rewriter.{fromBack, rewritten, Rewrite, turnsDown, writes, finishedText, rewriteBy, rewrite}
+use Rattle.model.specs.NumberedAnswers.{Parsed, refused, accepted, parseStored, overwrite, TextAnswer, turnsDown, writes, textBuffer}
+use Rattle.model.specs.Rewriter.{fromBack, rewritten, finishedText, rewriteBy, rewrite}
 use Rattle.model.proofs.Accepted.{ParsedOk, parsed-ok}
 use Rattle.model.proofs.LentLists.{sets-append, sets-overwrite}
 use Rattle.answers.specs.declared.Text.{Text}
 use Rattle.answers.specs.Answers.{refusingText, writtenText}
-use Rattle.text_writer.specs.Writing.{TailCopied, Filled}
+use Rattle.text_writer.specs.Writing.{TailCopied, Filled, textAnswer}
+use Rattle.text_writer.proofs.WriteLaws.{answered}
 use Rattle.rule_parser.specs.declared.Prepared.{Prepared}
 use Rattle.rule_parser.specs.Preparing.{preparedBy, preparedStored}
 use Rattle.rule_parser.proofs.OuterGaps.{stored-number}
 use Rattle.rule_rewriter.specs.declared.Front.{Front}
 use Rattle.rule_rewriter.specs.declared.Cut.{Cut}
 use Rattle.rule_rewriter.specs.declared.Rewriting.{Rewriting}
-use Rattle.rule_rewriter.specs.Rewriting.{dotBytes, Readable, FrontIs, BackIs, textOf, lengthOf, Fits, RewritingIs, textAnswer, textBuffer, RewriteIs}
+use Rattle.rule_rewriter.specs.Rewriting.{dotBytes, Readable, FrontIs, BackIs, textOf, lengthOf, Fits, RewritingIs, RewriteIs}
 
 -- ---- `steps`
 
@@ -75,11 +76,11 @@ module _ (s : List ℕ) (r : Rewriting) (h : Fits (length s) r) (out : List ℕ)
 -- ---- `rewrite`
 
 module _ (flag : ℕ) (s out : List ℕ) where
-  answered : (x : Rewrite) → rewrite (foldFlag flag) s (length out) ≡ x → (t : Text) → t ≡ textAnswer x → (out′ : List ℕ) → out′ ≡ textBuffer x out → RewriteIs flag s out t out′
-  answered x e t et out′ eo = record { answers = et ∙ sym (ap textAnswer e); buffer = eo ∙ sym (ap (λ (y : Rewrite). textBuffer y out) e) }
+  by-answer : (x : TextAnswer) → rewrite (foldFlag flag) s (length out) ≡ x → (t : Text) → t ≡ textAnswer x → (out′ : List ℕ) → out′ ≡ textBuffer x out → RewriteIs flag s out t out′
+  by-answer x e = answered (rewrite (foldFlag flag) s (length out)) x e out
 
   pub too-short : length out < ruleLimit → (t : Text) → t ≡ refusingText tooShort 0 → RewriteIs flag s out t out
-  too-short l t et = answered (turnsDown tooShort 0) (rw (lt-ltb (length out) ruleLimit l)) t et out refl
+  too-short l t et = by-answer (turnsDown tooShort 0) (rw (lt-ltb (length out) ruleLimit l)) t et out refl
 
   module _ (l : ruleLimit ≤ length out) (p : Prepared) (hp : p ≡ preparedStored flag s) where
     by-rule : (x : Parsed) → parseStored (foldFlag flag) s ≡ x → rewrite (foldFlag flag) s (length out) ≡ rewriteBy (foldFlag flag) s x
@@ -92,7 +93,7 @@ module _ (flag : ℕ) (s out : List ℕ) where
         go : (x : Parsed) → parseStored (foldFlag flag) s ≡ x → RewriteIs flag s out t out
         go (refused n k) e =
             let q = hp ∙ ap (preparedBy (foldFlag flag)) e in
-            answered (turnsDown n k) (by-rule (refused n k) e) t (et ∙ ap (λ (y : Prepared). refusingText (y .number) (y .place)) q) out refl
+            by-answer (turnsDown n k) (by-rule (refused n k) e) t (et ∙ ap (λ (y : Prepared). refusingText (y .number) (y .place)) q) out refl
         go (accepted es) e = absurd (z (ap (λ (y : Prepared). y .number) (hp ∙ ap (preparedBy (foldFlag flag)) e)))
 
     module _ (z : p .number ≡ 0) where
@@ -118,9 +119,9 @@ module _ (flag : ℕ) (s out : List ℕ) where
             by-text = by-rule (accepted (stored .0)) (stored .1)
 
             pub past-limit : ruleLimit < n → (t : Text) → t ≡ refusingText ruleLong ruleLimit → RewriteIs flag s out t out
-            past-limit k t et = answered (turnsDown ruleLong ruleLimit) (by-text ∙ rw (lt-ltb ruleLimit (length (rewritten (foldFlag flag) s)) (omega (arith, long)))) t et out refl
+            past-limit k t et = by-answer (turnsDown ruleLong ruleLimit) (by-text ∙ rw (lt-ltb ruleLimit (length (rewritten (foldFlag flag) s)) (omega (arith, long)))) t et out refl
 
             pub rewrites : n ≤ ruleLimit → (out′ : List ℕ) → out′ ≡ overwrite out (textOf s r) → (t : Text) → t ≡ writtenText n → RewriteIs flag s out t out′
             rewrites k out′ eo t et =
-                answered (writes (rewritten (foldFlag flag) s)) (by-text ∙ rw (le-ltb ruleLimit (length (rewritten (foldFlag flag) s)) (omega (arith, long))))
+                by-answer (writes (rewritten (foldFlag flag) s)) (by-text ∙ rw (le-ltb ruleLimit (length (rewritten (foldFlag flag) s)) (omega (arith, long))))
                 t (et ∙ sym (ap writtenText long)) out′ (eo ∙ sym (ap (overwrite out) (ap (λ (b : Bool). rewritten b s) (sym ef) ∙ hr .is)))

@@ -10,10 +10,10 @@ use Rattle.model.specs.Occurrence.{stretch}
 use Rattle.model.specs.RuleText as Model
 use Rattle.model.specs.RuleText.{foldFlag, positionLimit}
 use Rattle.model.specs.Spelling.{spelledFrom, textBy}
-use Rattle.model.specs.NumberedAnswers.{accepted, elementsFrom, overwrite}
-use Rattle.model.specs.Rewriter.{dots, fromBack, frontDone, rewritten, Rewrite, turnsDown, writes, rewrite}
+use Rattle.model.specs.NumberedAnswers.{accepted, elementsFrom}
+use Rattle.model.specs.Rewriter.{dots, fromBack, frontDone, rewritten, rewrite}
 use Rattle.answers.specs.declared.Text.{Text}
-use Rattle.answers.specs.Answers.{refusingText, writtenText}
+use Rattle.text_writer.specs.Writing.{WritesText}
 use Rattle.rule_element.specs.declared.Kind.{Kind}
 use Rattle.rule_element.specs.declared.Kind.the-variants.{Byte, Any, Class, Gap}
 use Rattle.rule_rewriter.specs.declared.Step.{Step}
@@ -86,15 +86,6 @@ pub record RewritingIs (fold : Bool) (s : List ℕ) (r : Rewriting) : Type 0 whe
 
 -- ---- what the public call promises
 
-abbrev pub textAnswer : Rewrite → Text
-textAnswer (turnsDown n p) = refusingText n p
-textAnswer (writes text) = writtenText (length text)
-
--- "After a refusal everything lent is as before"; past the text a buffer is as it was.
-abbrev pub textBuffer : Rewrite → List ℕ → List ℕ
-textBuffer (turnsDown n p) out = out
-textBuffer (writes text) out = overwrite out text
-
-pub record RewriteIs (flag : ℕ) (rule out : List ℕ) (r : Text) (out′ : List ℕ) : Type 0 where
-  pub answers : r ≡ textAnswer (rewrite (foldFlag flag) rule (length out))
-  pub buffer : out′ ≡ textBuffer (rewrite (foldFlag flag) rule (length out)) out
+-- its number and place, or its length; and every byte of the buffer
+abbrev pub RewriteIs : (flag : ℕ) (rule out : List ℕ) (r : Text) (out′ : List ℕ) → Type 0
+RewriteIs flag rule out r out′ = WritesText (rewrite (foldFlag flag) rule (length out)) out r out′

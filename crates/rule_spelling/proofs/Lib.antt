@@ -5,3 +5,6 @@ pub mod OneElement
 pub mod Spellings
 pub mod Rereading
 pub mod Retired
+pub mod LikeTest
+pub mod LikeRules
+pub mod ImportCovers

@@ -1,17 +1,19 @@
 -- Elements with their spelling: those of an accepted text are its elements, together they spell it, and they are read again from any text that has them. For any
 -- limit of positions. Assumes nothing.
 use mathlib.Core.Path.{_≡_, refl, sym, ap, ap₂, _∙_}
-use mathlib.Core.Bool.{Bool, true, false}
-use mathlib.Core.List.{List, [], _∷_, _++_}
+use mathlib.Core.Bool.{Bool, true, false, cond}
+use mathlib.Core.List.{List, [], _∷_, _++_, tail-eq-of-cons-eq}
 use Prim.Native.Nat.{ℕ, zero, suc, pred, _+_, _≤_}
+use native.Mathlib.Nat.{add-zero}
 use native.Mathlib.Omega.{arith}
 use borrow.Author.Tests.{le-leb}
 use lib.Dec.{leb}
 use lib.ListN.{length, take, drop, length-append, length-drop, take-append-drop}
 use lib.Seq.{drop-nil, drop-append-le, length-take-le}
+use Rattle.model.specs.RefusalNumbers.{tooManyPositions}
 use Rattle.model.specs.RuleText.{Kind, Often, once, Element, kindPositions, positions, size, ReadKind, bad, good, kindAt, oftenAt, oftenAfter, markBytes}
 use Rattle.model.specs.Spelling.{Spelled, spelledFrom, textBy, elementsBy}
-use Rattle.model.specs.NumberedAnswers.{accepted, addElement, elementsFrom}
+use Rattle.model.specs.NumberedAnswers.{Parsed, refused, accepted, addElement, elementsFrom}
 use Rattle.model.specs.Rewriter.{dots}
 use Rattle.model.proofs.Accepted.{elements-bad, elements-over, elements-good, spelled-good, accepted-inj, not-refused, added, kind-count}
 use Rattle.rule_spelling.proofs.OneElement.{kind-fits, kind-local, kind-once, often-fits, often-local}
@@ -119,14 +121,19 @@ module _ (most : ℕ) (fold : Bool) where
 
 -- ---- they are accepted again
 
-skip-all : (most : ℕ) (fold : Bool) (bs rest : List ℕ) (place used : ℕ) → (p : ℕ) × (elementsFrom most fold (length bs) place used (bs ++ rest) ≡ elementsFrom most fold 0 p used rest)
-skip-all most fold [] rest place used = (place, refl)
-skip-all most fold (b ∷ bs) rest place used = skip-all most fold bs rest (suc place) used
+skip-all : (most : ℕ) (fold : Bool) (bs rest : List ℕ) (place used : ℕ) → elementsFrom most fold (length bs) place used (bs ++ rest) ≡ elementsFrom most fold 0 (place + length bs) used rest
+skip-all most fold [] rest place used = ap (λ (p : ℕ). elementsFrom most fold 0 p used rest) (sym (add-zero place))
+skip-all most fold (b ∷ bs) rest place used =
+    let z : suc place + length bs ≡ place + suc (length bs) = omega arith in
+    skip-all most fold bs rest (suc place) used ∙ ap (λ (p : ℕ). elementsFrom most fold 0 p used rest) z
 
-pub reads-accepted : (most : ℕ) (fold : Bool) (ss : List Spelled) (place used : ℕ) → Reads fold ss → used + length (positions fold (elementsBy ss)) ≤ most
-    → elementsFrom most fold 0 place used (textBy ss) ≡ accepted (elementsBy ss)
-reads-accepted most fold [] place used r l = refl
-reads-accepted most fold (s ∷ ss) place used r l = go (s .bytes) refl (λ p u h. reads-accepted most fold ss p u (r .1) h)
+-- One of them at the front is added to what is read after it, or takes the positions past the limit.
+pub one-read : (most : ℕ) (fold : Bool) (s : Spelled) (rest : List ℕ) (place used : ℕ) → ReadsOne fold s rest
+    → elementsFrom most fold 0 place used (s .bytes ++ rest)
+    ≡ cond (leb (used + size (s .element .kind)) most)
+    (addElement (s .element) (elementsFrom most fold 0 (place + length (s .bytes)) (used + size (s .element .kind)) rest))
+    (refused tooManyPositions place)
+one-read most fold s rest place used one = go (s .bytes) refl (leb (used + size k) most) refl
   where
     k : Kind
     k = s .element .kind
@@ -134,38 +141,49 @@ reads-accepted most fold (s ∷ ss) place used r l = go (s .bytes) refl (λ p u 
     o : Often
     o = s .element .often
 
-    one : ReadsOne fold s (textBy ss)
-    one = r .0
-
     n : ℕ
     n = one .count
 
-    count : length (kindPositions fold k o) ≡ size k
-    count = kind-count fold (s .bytes ++ textBy ss) k n o (one .is)
-
-    room : used + size k + length (positions fold (elementsBy ss)) ≤ most
-    room = let c = count in omega (arith, length-append (kindPositions fold k o) (positions fold (elementsBy ss)))
-
-    go : (bs : List ℕ) → s .bytes ≡ bs → ((p u : ℕ) → u + length (positions fold (elementsBy ss)) ≤ most → elementsFrom most fold 0 p u (textBy ss) ≡ accepted (elementsBy ss))
-        → elementsFrom most fold 0 place used (s .bytes ++ textBy ss) ≡ accepted (s .element ∷ elementsBy ss)
-    go [] e ih =
-        let f = kind-fits fold (s .bytes ++ textBy ss) k n (one .is) .0 in
+    go : (bs : List ℕ) → s .bytes ≡ bs → (room : Bool) → leb (used + size k) most ≡ room
+        → elementsFrom most fold 0 place used (s .bytes ++ rest)
+        ≡ cond room (addElement (s .element) (elementsFrom most fold 0 (place + length (s .bytes)) (used + size k) rest)) (refused tooManyPositions place)
+    go [] e room t =
+        let f = kind-fits fold (s .bytes ++ rest) k n (one .is) .0 in
         let w = one .long in
         let z = ap length e in
         absurd (omega arith)
-    go (c ∷ bs) e ih =
-        let f = kind-fits fold (s .bytes ++ textBy ss) k n (one .is) .0 in
-        let w = one .long in
-        let z = ap length e in
-        let cs = bs ++ textBy ss in
-        let whole : s .bytes ++ textBy ss ≡ c ∷ cs = ap (λ (x : List ℕ). x ++ textBy ss) e in
+    go (c ∷ bs) e room t =
+        let cs = bs ++ rest in
+        let whole : s .bytes ++ rest ≡ c ∷ cs = ap (λ (x : List ℕ). x ++ rest) e in
         let q : kindAt fold (c ∷ cs) ≡ good k n = sym (ap (kindAt fold) whole) ∙ one .is in
-        let w₂ : oftenAfter k (drop n (c ∷ cs)) ≡ o = sym (ap (λ (x : List ℕ). oftenAfter k (drop n x)) whole) ∙ one .often-is in
-        let t : leb (used + size k) most ≡ true = le-leb (used + size k) most (let h = room in omega arith) in
-        let sk : pred n + markBytes o ≡ length bs = omega arith in
-        let p = skip-all most fold bs (textBy ss) (suc place) (used + size k) in
-        ap (elementsFrom most fold 0 place used) whole
-        ∙ elements-good most fold c cs place used n k q t
-        ∙ ap (λ (x : Often). addElement (record { kind = k; often = x }) (elementsFrom most fold (pred n + markBytes x) (suc place) (used + size k) cs)) w₂
-        ∙ ap (λ (i : ℕ). addElement (s .element) (elementsFrom most fold i (suc place) (used + size k) cs)) sk
-        ∙ ap (addElement (s .element)) (p .1 ∙ ih (p .0) (used + size k) room)
+        by-room c cs bs whole e q room t
+      where
+        by-room : (c : ℕ) (cs bs : List ℕ) → s .bytes ++ rest ≡ c ∷ cs → s .bytes ≡ c ∷ bs → kindAt fold (c ∷ cs) ≡ good k n → (room : Bool) → leb (used + size k) most ≡ room
+            → elementsFrom most fold 0 place used (s .bytes ++ rest)
+            ≡ cond room (addElement (s .element) (elementsFrom most fold 0 (place + length (s .bytes)) (used + size k) rest)) (refused tooManyPositions place)
+        by-room c cs bs whole e q false t = ap (elementsFrom most fold 0 place used) whole ∙ elements-over most fold c cs place used n k q t
+        by-room c cs bs whole e q true t =
+            let f = kind-fits fold (s .bytes ++ rest) k n (one .is) .0 in
+            let w = one .long in
+            let z = ap length e in
+            let w₂ : oftenAfter k (drop n (c ∷ cs)) ≡ o = sym (ap (λ (x : List ℕ). oftenAfter k (drop n x)) whole) ∙ one .often-is in
+            let sk : pred n + markBytes o ≡ length bs = omega arith in
+            let tail : cs ≡ bs ++ rest = tail-eq-of-cons-eq (sym whole ∙ ap (λ (x : List ℕ). x ++ rest) e) in
+            let there : suc place + length bs ≡ place + length (s .bytes) = omega arith in
+            ap (elementsFrom most fold 0 place used) whole
+            ∙ elements-good most fold c cs place used n k q t
+            ∙ ap (λ (x : Often). addElement (record { kind = k; often = x }) (elementsFrom most fold (pred n + markBytes x) (suc place) (used + size k) cs)) w₂
+            ∙ ap₂ (λ (i : ℕ) (l : List ℕ). addElement (s .element) (elementsFrom most fold i (suc place) (used + size k) l)) sk tail
+            ∙ ap (addElement (s .element)) (skip-all most fold bs rest (suc place) (used + size k) ∙ ap (λ (p : ℕ). elementsFrom most fold 0 p (used + size k) rest) there)
+
+pub reads-accepted : (most : ℕ) (fold : Bool) (ss : List Spelled) (place used : ℕ) → Reads fold ss → used + length (positions fold (elementsBy ss)) ≤ most
+    → elementsFrom most fold 0 place used (textBy ss) ≡ accepted (elementsBy ss)
+reads-accepted most fold [] place used r l = refl
+reads-accepted most fold (s ∷ ss) place used r l =
+    let k = s .element .kind in
+    let one = r .0 in
+    let count = kind-count fold (s .bytes ++ textBy ss) k (one .count) (s .element .often) (one .is) in
+    let room : used + size k + length (positions fold (elementsBy ss)) ≤ most = omega (arith, length-append (kindPositions fold k (s .element .often)) (positions fold (elementsBy ss))) in
+    one-read most fold s (textBy ss) place used one
+    ∙ ap₂ (λ (b : Bool) (p : Parsed). cond b (addElement (s .element) p) (refused tooManyPositions place)) (le-leb (used + size k) most (omega arith))
+    (reads-accepted most fold ss (place + length (s .bytes)) (used + size k) (r .1) room)

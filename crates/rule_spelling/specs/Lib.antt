@@ -1,3 +1,4 @@
--- What is claimed of the rewriter, and closed cases of it.
+-- What is claimed of the rewriter and of imported rules, and closed cases of them.
 pub mod Retired
+pub mod LikeRules
 pub mod LongRules

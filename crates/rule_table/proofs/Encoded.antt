@@ -15,7 +15,7 @@ use Rattle.model.specs.Occurrence.{Position, oneIf, shortest}
 use Rattle.model.specs.RuleText as Model
 use Rattle.model.specs.RuleText.{foldFlag, positionLimit, kindSet, kindPositions, positions}
 use Rattle.model.specs.NumberedAnswers.{Parsed, refused, accepted, parse, positionsBy, rulePositions}
-use Rattle.shift_and.specs.Automaton.{wordAutomaton}
+use Rattle.shift_and.specs.Automaton.{wordBits, wordAutomaton}
 use Rattle.shift_and.specs.Masks.{maskFrom, mask, admitsMask, optionalMask, repeatsMask, Encodes}
 use Rattle.shift_and.proofs.MaskLaws.{mask-append, mask-fits}
 use Rattle.shift_and_wide.specs.declared.Wide.{Wide}
@@ -28,7 +28,7 @@ use Rattle.shift_and_wide.proofs.Masks.{number-words, words-number, words-fit, 
 use Rattle.shift_and_wide.proofs.Instances.{Fits, encodes-low}
 use Rattle.rule_parser.specs.declared.Prepared.{Prepared}
 use Rattle.rule_parser.specs.Preparing.{answerOf, preparedBy, prepared, Prepares}
-use Rattle.rule_table.specs.Tables.{planeOf, tableOf, rowOf, Counted, PlaneFillable, Fillable, mirrorFrom, mirror}
+use Rattle.rule_table.specs.Tables.{planeOf, tableOf, rowOf, Counted, PlaneFillable, PlaneFilled, Fillable, Filled, mirrorFrom, mirror}
 use Rattle.rule_table.proofs.FillLaws.{Every, every-append, every-reverse, every-mask, kind-every, zero-word, long-entries, entry-at, Accepts, accepts}
 
 -- ---- `mirrored`
@@ -282,3 +282,15 @@ module _ (flag : ℕ) (rule : List ℕ) (p : Prepared) (hp : Prepares flag rule 
 
   pub may-fill-plane : (plane : List ℕ) (word : ℕ) → length plane ≡ 256 → word < 4 → PlaneFillable flag rule (p .positions) plane word
   may-fill-plane plane word l h = record { rule-counted = counted; long = l; one = h }
+
+  -- the table that is filled for it, with the masks that it was prepared to, and the lowest plane alone
+  pub filled-encodes : (table : List ℕ) → Filled flag rule false table → EncodesWide table (record { repeats = p .repeats; optional = p .optional; top = p .positions }) ps
+  filled-encodes table t =
+      encodes-table ps (rule-bytes flag rule false) few table (record { repeats = p .repeats; optional = p .optional; top = p .positions }) (t .is)
+      (ap (λ (y : Prepared). record { repeats = y .repeats; optional = y .optional; top = y .positions }) is-answer)
+
+  pub plane-encodes : p .positions < wordBits → (plane : List ℕ) → PlaneFilled flag rule false plane 0 → Encodes (wordAutomaton plane (p .repeats .w0) (p .optional .w0) (p .positions)) ps
+  plane-encodes low plane f =
+      subst (λ (t : List ℕ). Encodes (wordAutomaton t (p .repeats .w0) (p .optional .w0) (p .positions)) ps) (lowest-plane ps ∙ sym (f .is))
+      (encodes-lowest (tableOf ps) (record { repeats = p .repeats; optional = p .optional; top = p .positions }) ps
+      (filled-encodes (tableOf ps) (record { long = table-long ps; is = refl })) (omega (arith, positions-are)))

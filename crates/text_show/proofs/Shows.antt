@@ -1,5 +1,5 @@
 -- The part that is shown, for any rule, text and start. On plain values. Assumes nothing.
-use mathlib.Core.Path.{_≡_, refl, sym, ap, subst, _∙_}
+use mathlib.Core.Path.{_≡_, sym, ap, _∙_}
 use mathlib.Core.Bool.{Bool, false, cond}
 use mathlib.Core.List.{List}
 use Prim.Native.Nat.{ℕ, _+_, _-_, _≤_, _<_}
@@ -14,7 +14,7 @@ use Rattle.model.specs.WindowSearch.{emptyPart, partFrom, partBy, shown}
 use Rattle.model.proofs.Windows.{take-drop}
 use Rattle.model.proofs.Earliest.{part-empty}
 use Rattle.model.proofs.Accepted.{rule-ok}
-use Rattle.shift_and.specs.Automaton.{wordBits, Automaton}
+use Rattle.shift_and.specs.Automaton.{Automaton}
 use Rattle.shift_and.specs.Masks.{Encodes}
 use Rattle.shift_and_step.specs.declared.Masks.{Masks}
 use Rattle.shift_and_step.specs.Stepping.{automatonOf, TableFits}
@@ -22,31 +22,11 @@ use Rattle.shift_and_wide.specs.declared.WideMasks.{WideMasks}
 use Rattle.shift_and_wide.specs.Stepping.{wideAutomatonOf, numbered, WideTableFits}
 use Rattle.rule_parser.specs.declared.Prepared.{Prepared}
 use Rattle.rule_parser.specs.Preparing.{Prepares}
-use Rattle.rule_table.specs.Tables.{tableOf, PlaneFillable, PlaneFilled, Fillable, Filled}
-use Rattle.rule_table.proofs.Encoded.{rule-bytes, table-long, lowest-plane, EncodesWide, encodes-table, encodes-lowest, is-refused, is-accepted, is-answer, positions-are, few, may-fill, may-fill-plane}
+use Rattle.rule_table.specs.Tables.{PlaneFillable, PlaneFilled, Fillable, Filled}
+use Rattle.rule_table.proofs.Encoded.{is-refused, is-accepted, may-fill, may-fill-plane, filled-encodes, plane-encodes}
 use Rattle.answers.specs.declared.Span.{Span}
 use Rattle.window_search.specs.Searching.{spanOf, SpanIs}
 use Rattle.text_show.specs.Showing.{Showable, ShowableLow, PartIs, ShownIs, shownBytes, ShowsPart}
-
--- ---- an accepted rule, and its table
-
-module _ (flag : ℕ) (rule : List ℕ) (p : Prepared) (hp : Prepares flag rule p) (z : p .number ≡ 0) where
-  abbrev ps : List Position
-  ps = rulePositions (foldFlag flag) rule
-
-  abbrev masks : WideMasks
-  masks = record { repeats = p .repeats; optional = p .optional; top = p .positions }
-
-  onward : (table : List ℕ) → Filled flag rule false table → EncodesWide table masks ps
-  onward table t =
-      encodes-table ps (rule-bytes flag rule false) (few flag rule p hp z) table masks (t .is)
-      (ap (λ (y : Prepared). record { repeats = y .repeats; optional = y .optional; top = y .positions }) (is-answer flag rule p hp z))
-
-  low-onward : p .positions < wordBits → (plane : List ℕ) → PlaneFilled flag rule false plane 0
-      → Encodes (automatonOf plane (record { repeats = p .repeats .w0; optional = p .optional .w0; top = p .positions })) ps
-  low-onward low plane f =
-      subst (λ (t : List ℕ). Encodes (automatonOf t (record { repeats = p .repeats .w0; optional = p .optional .w0; top = p .positions })) ps) (lowest-plane ps ∙ sym (f .is))
-      (encodes-lowest (tableOf ps) masks ps (onward (tableOf ps) (record { long = table-long ps; is = refl })) (omega (arith, positions-are flag rule p hp z)))
 
 -- ---- `span_low`, `span_wide`, `span_accepted`
 
@@ -71,7 +51,7 @@ module _ (flag : ℕ) (rule : List ℕ) (p : Prepared) (len start : ℕ) (r : Sh
     shown-fits = let n = r .prepares .few in record { long = f .long; top = omega arith }
 
     pub part-shown : T (all isByte rule) → (text : List ℕ) (y : Span) → SpanIs (numbered (wideAutomatonOf forward wide-masks)) text start y → PartIs flag rule text start y
-    part-shown = part-of (numbered (wideAutomatonOf forward wide-masks)) (onward flag rule p (r .prepares) (r .accepted) forward f .numbers)
+    part-shown = part-of (numbered (wideAutomatonOf forward wide-masks)) (filled-encodes flag rule p (r .prepares) (r .accepted) forward f .numbers)
 
 module _ (flag : ℕ) (rule : List ℕ) (p : Prepared) (len start : ℕ) (r : ShowableLow flag rule p len start) where
   pub shown-low-fillable : (plane : List ℕ) → length plane ≡ 256 → PlaneFillable flag rule (p .positions) plane 0
@@ -85,7 +65,7 @@ module _ (flag : ℕ) (rule : List ℕ) (p : Prepared) (len start : ℕ) (r : Sh
     shown-low-fits = let n = r .low in record { long = f .long; top = omega arith }
 
     pub part-low-shown : T (all isByte rule) → (text : List ℕ) (y : Span) → SpanIs (automatonOf forward low-masks) text start y → PartIs flag rule text start y
-    part-low-shown = part-of flag rule p len start (r .showable) (automatonOf forward low-masks) (low-onward flag rule p (r .showable .prepares) (r .showable .accepted) (r .low) forward f)
+    part-low-shown = part-of flag rule p len start (r .showable) (automatonOf forward low-masks) (plane-encodes flag rule p (r .showable .prepares) (r .showable .accepted) (r .low) forward f)
 
 -- ---- `span`
 

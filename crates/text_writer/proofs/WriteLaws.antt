@@ -1,4 +1,4 @@
--- The laws of `copy_tail` and `fill`. On plain values. Assumes nothing.
+-- The laws of `copy_tail` and `fill`, and of an answer. On plain values. Assumes nothing.
 use mathlib.Core.Path.{_≡_, refl, sym, ap, _∙_}
 use mathlib.Core.List.{List, []}
 use Prim.Native.Nat.{ℕ, suc, _+_, _-_, _≤_, _<_}
@@ -6,7 +6,9 @@ use native.Mathlib.Omega.{arith}
 use native.Mathlib.Numerals.{add-one}
 use lib.ListN.{length, drop, getD, set, replicate, length-drop, length-set, drop-of-length-le}
 use lib.Seq.{sets, drop-cons}
-use Rattle.text_writer.specs.Writing.{TailCopied, Filled}
+use Rattle.model.specs.NumberedAnswers.{TextAnswer, textBuffer}
+use Rattle.answers.specs.declared.Text.{Text}
+use Rattle.text_writer.specs.Writing.{TailCopied, Filled, textAnswer, WritesText}
 
 -- ---- `copy_tail`
 
@@ -65,3 +67,9 @@ module _ (out₀ : List ℕ) (at byte : ℕ) where
         let z : end - i ≡ 0 = omega arith in
         let w : end - at ≡ n = omega arith in
         record { count = e; list = sym (ap (λ (k : ℕ). sets out i (replicate k byte)) z) ∙ g .list ∙ ap (λ (k : ℕ). sets out₀ at (replicate k byte)) w }
+
+-- ---- an answer
+
+-- by what it comes to
+pub answered : (a x : TextAnswer) → a ≡ x → (out : List ℕ) (r : Text) → r ≡ textAnswer x → (out′ : List ℕ) → out′ ≡ textBuffer x out → WritesText a out r out′
+answered a x e out r er out′ eo = record { answers = er ∙ sym (ap textAnswer e); buffer = eo ∙ sym (ap (λ (y : TextAnswer). textBuffer y out) e) }

@@ -37,7 +37,7 @@ fn step_entry(d: Wide, b: Wide, k: u64, m: WideMasks, x: WideBlocks) -> Wide
 }
 
 // One step on byte c.
-fn step_on(table: &[u64], m: WideMasks, x: WideBlocks, k: u64, d: Wide, c: usize) -> Wide
+pub fn step_on(table: &[u64], m: WideMasks, x: WideBlocks, k: u64, d: Wide, c: usize) -> Wide
     requires { ⌜ WideTableFits (now table) m ⌝ }
     requires { ⌜ BlocksAre (m .optional) x ⌝ }
     requires { ⌜ c < 256 ⌝ }
@@ -48,14 +48,14 @@ fn step_on(table: &[u64], m: WideMasks, x: WideBlocks, k: u64, d: Wide, c: usize
 }
 
 // The states before any byte.
-fn start_state(q: Wide) -> Wide
+pub fn start_state(q: Wide) -> Wide
     ensures { λ r. ⌜ number r ≡ opening 256 (number q) ⌝ }
 {
     shift_and_wide::start_state(q)
 }
 
 // Whether the bit of the top position reports an end.
-fn accepts(d: Wide, top: u64) -> bool
+pub fn accepts(d: Wide, top: u64) -> bool
     requires { ⌜ top < 256 ⌝ }
     ensures { λ r. ⌜ r ≡ topBit top (number d) ⌝ }
 {

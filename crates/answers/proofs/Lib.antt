@@ -1,0 +1,2 @@
+-- Laws on plain values.
+pub mod Judging

@@ -1,0 +1,3 @@
+-- Laws on plain values, bottom up.
+pub mod Readings
+pub mod CoverLaws
