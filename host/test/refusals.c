@@ -97,8 +97,8 @@ static void rewriting_refuses(const uint8_t *bytes, size_t length, uint32_t fold
     CHECK(untouched_past(&list_room, t.length) && untouched(&rule_room));
 }
 
-/* Through prepare, open, search, show, covers and rewrite; open and search are lent too little besides, or a code without a set,
- * which come later. */
+/* Through prepare, open, search, show, covers and rewrite; open and search are lent too little besides, or a code without
+ * a set, which come later. */
 static void refuses(const uint8_t *bytes, size_t length, uint32_t fold, uint32_t number, uint32_t place)
 {
     const uint8_t *rule = lend_bytes(&rule_room, bytes, length), *text = lend_bytes(&text_room, "abc", 3);
