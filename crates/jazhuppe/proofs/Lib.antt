@@ -1,5 +1,2 @@
 -- Laws on plain values; each function's own file only cites them.
 pub mod Prepares
-pub mod MadeCalls
-pub mod Agreement
-pub mod LikeLists

@@ -12,7 +12,7 @@ use Rattle.text_writer.specs.Writing.{textAnswer}
 use Rattle.rule_spelling.proofs.ImportCovers.{import-covers, import-refused}
 use Rattle.like_importer.specs.Importing.{ImportIs}
 use Rattle.whole_match.specs.Covering.{coverAnswer}
-use Rattle.jazhuppe.specs.LikeLists.{LikeListed}
+use Rattle.agreement.specs.LikeLists.{LikeListed}
 
 pub like-lists : (cs out : List ℕ) (r : Text) (out′ : List ℕ) → ImportIs cs out r out′ → r .number ≡ 0 → LikeListed cs r out′
 like-lists cs out r out′ i z = go (imported cs (length out)) refl (i .answers) (i .buffer)

@@ -21,7 +21,7 @@ use Rattle.scan_open.specs.Opening.{OpenIs}
 use Rattle.scan.specs.Calls.{numberOf, after, CallIs, runFrom, Bytes, PiecesAreBytes}
 use Rattle.scan.specs.Calls as Calls
 use Rattle.scan.proofs.PlainScan.{scan-is-plain}
-use Rattle.jazhuppe.specs.Agreement.{Request, feeding, finishing, Made, MetBy, HandedOn, callBy, callsOf, endsOf, AllAgree, reportedBy, Finishes, Finished}
+use Rattle.agreement.specs.Agreement.{Request, feeding, finishing, Made, MetBy, HandedOn, callBy, callsOf, endsOf, AllAgree, reportedBy, Finishes, Finished}
 
 -- ---- from the contracts to the definitions that they cite
 

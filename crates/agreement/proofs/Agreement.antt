@@ -28,8 +28,8 @@ use Rattle.scan_open.specs.Opening.{OpenIs}
 use Rattle.scan.specs.Calls.{Bytes}
 use Rattle.scan.proofs.PlainScan.{OpenedWith, opened-with}
 use Rattle.text_search.specs.Searching.{searchAnswer, searchList, SearchIs}
-use Rattle.jazhuppe.specs.Agreement.{Made, HandedOn, callsOf, AllAgree, reportedBy, Finished, planOf, Agreement}
-use Rattle.jazhuppe.proofs.MadeCalls.{made-is-plain, reported-ends, finished-is}
+use Rattle.agreement.specs.Agreement.{Made, HandedOn, callsOf, AllAgree, reportedBy, Finished, planOf, Agreement}
+use Rattle.agreement.proofs.MadeCalls.{made-is-plain, reported-ends, finished-is}
 
 -- ---- a finished plan is never over the limit, so that its search is not refused by 10
 

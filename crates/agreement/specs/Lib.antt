@@ -1,0 +1,3 @@
+-- What the theorems say.
+pub mod Agreement
+pub mod LikeLists
