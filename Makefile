@@ -44,6 +44,9 @@ build/test/%.o: host/test/%.c $(wildcard host/test/*.h) $(HEADER)
 $(TESTS): %: %.o build/test/testing.o build/test/second.o $(ARCHIVE)
 	$(CC) $^ -o $@
 
+# It draws rules and plans.
+build/test/differential: build/test/drawn.o
+
 host-test: $(PROGRAM) $(TESTS) $(LISTER)
 	CC="$(CC)" CXX="$(CXX)" PROGRAM=$(PROGRAM) sh host/test/all.sh
 

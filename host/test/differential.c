@@ -16,56 +16,26 @@
 #include <stdlib.h>
 #include <string.h>
 
+#include "drawn.h"
 #include "jazhuppe.h"
-#include "random.h"
 #include "scan_layout.h"
 #include "second.h"
 #include "testing.h"
 
-enum {
-    WORDS = JAZHUPPE_SCAN_WORDS,
-    REFUSALS = JAZHUPPE_OUTER_GAP,
-    RULE_ROOM = JAZHUPPE_RULE_MOST + 80,
-    CODES_ROOM = 300,
-    SETS_MOST = JAZHUPPE_CODES_MOST + 3,
-    SETS_ROOM = SETS_MOST * JAZHUPPE_SET_BYTES,
-    PLAN_MOST = 1536,
-    PATTERN_MOST = 2100
-};
+enum { WORDS = JAZHUPPE_SCAN_WORDS, REFUSALS = JAZHUPPE_OUTER_GAP, PATTERN_MOST = 2100 };
 
-typedef struct {
-    uint8_t stored[RULE_ROOM], rule[RULE_ROOM]; /* as it was drawn, and as it is tried: most often without outer gaps */
-    size_t stored_len, rule_len;
-    uint32_t fold;
-    uint8_t codes[CODES_ROOM], sets[SETS_ROOM];
-    size_t codes_len, sets_len;
-    uint8_t plan[PLAN_MOST];
-    size_t plan_len, plan_most;
-    uint8_t text[PLAN_MOST];
-    size_t text_len;
-    second_rule read;
-    uint8_t pattern[PATTERN_MOST], name[PLAN_MOST]; /* the name is for the pattern, or before that for the rule */
-    size_t pattern_len, name_len;
-} test_case;
+/* Beside what drawn.h draws: the plan decoded, a LIKE pattern, and a name for it, or before that for the rule. */
+static struct {
+    uint8_t text[PLAN_MOST], pattern[PATTERN_MOST], name[PLAN_MOST];
+    size_t text_len, pattern_len, name_len;
+} beside;
 
 static unsigned long long seed = 1;
 static unsigned cases = 20000, case_number;
-static random_source source;
-static test_case now;
 
 /* Memory for a text over the limit, which nobody may touch. */
 static const size_t over = (size_t)JAZHUPPE_TEXT_MOST + 1;
 static const uint8_t *too_much;
-
-static uint32_t below(uint32_t most)
-{
-    return random_below(&source, most);
-}
-
-static bool one_in(uint32_t n)
-{
-    return below(n) == 0;
-}
 
 /* ---- what was asked, for the report of a difference */
 
@@ -116,9 +86,9 @@ static void different(const char *what)
     print_bytes("codes", now.codes, now.codes_len);
     print_bytes("sets", now.sets, now.sets_len);
     print_bytes("plan", now.plan, now.plan_len);
-    print_bytes("text", now.text, now.text_len);
-    print_bytes("pattern", now.pattern, now.pattern_len);
-    print_bytes("name", now.name, now.name_len);
+    print_bytes("text", beside.text, beside.text_len);
+    print_bytes("pattern", beside.pattern, beside.pattern_len);
+    print_bytes("name", beside.name, beside.name_len);
     printf("calls, in order:\n%s", asked);
     printf("differential: 0 ok, 1 failed\n");
     exit(EXIT_FAILURE);
@@ -207,472 +177,12 @@ static void hold_lent(void)
         different("what was lent for reading");
 }
 
-/* ---- rules */
-
-static const uint8_t alphabet[] = {'a', 'b', 'c',  'A',  'B',  'x',  '&',  ';',  '#', '1',
-                                   '8', 0,   0xC3, 0xA9, 0xEF, 0xBF, 0xBD, '\n', '-'};
-
-static uint8_t any_letter(void)
-{
-    return one_in(40) ? (uint8_t)below(256) : alphabet[below(one_in(3) ? sizeof alphabet : 3)];
-}
-
-static void put(uint8_t c)
-{
-    if (now.rule_len < RULE_ROOM)
-        now.rule[now.rule_len++] = c;
-}
-
-static void put_text(const char *s)
-{
-    while (*s != '\0')
-        put((uint8_t)*s++);
-}
-
-static void put_byte(uint8_t c)
-{
-    if (c != 0 && strchr(".[]{}?+*\\", c) != NULL)
-        put('\\');
-    put(c);
-}
-
-static void put_class_byte(uint8_t c)
-{
-    if (c == ']' || c == '\\' || c == '-' || c == '^' || one_in(50))
-        put('\\');
-    put(c);
-}
-
-static void put_class(void)
-{
-    put('[');
-    if (one_in(3))
-        put('^');
-    for (uint32_t n = 1 + below(3); n > 0; n--) {
-        uint8_t lo = any_letter(), hi = any_letter();
-
-        put_class_byte(lo < hi || one_in(100) ? lo : hi);
-        if (one_in(2)) {
-            put('-');
-            put_class_byte(lo < hi ? hi : lo);
-        }
-    }
-    put(']');
-}
-
-/* Every byte but A, turned round: the fold flag leaves none of it. */
-static void put_class_of_A(void)
-{
-    static const uint8_t class_of_A[] = {'[', '^', 0, '-', '@', 'B', '-', 255, ']'};
-
-    for (size_t i = 0; i < sizeof class_of_A; i++)
-        put(class_of_A[i]);
-}
-
-static void put_bounds(uint32_t lo, uint32_t hi)
-{
-    char gap[32];
-
-    snprintf(gap, sizeof gap, one_in(20) ? "{%02lu,%02lu}" : "{%lu,%lu}", (unsigned long)lo, (unsigned long)hi);
-    put_text(gap);
-}
-
-static void put_gap(void)
-{
-    uint32_t lo = below(one_in(6) ? 64 : 3), hi = lo + below(one_in(6) ? 64 : 3);
-
-    put_bounds(lo, hi == 0 && !one_in(20) ? 1 : hi);
-}
-
-/* For the front or back of a rule: gaps, of which those from 0 bare the next, and what only looks like them. */
-static void put_outer(void)
-{
-    static const char *const others[] = {
-        "{2,2}", "{1,1}", "{00,03}", "{01,02}", "{98,99}", "\\{1,2\\}", "[{1,2}]", "[{0,1}]*", "[\\]{0,1}]", ".", "\\}",
-    };
-
-    for (uint32_t n = 1 + below(3); n > 0; n--)
-        if (one_in(2))
-            put_bounds(0, 1 + below(3));
-        else if (one_in(2))
-            put_gap();
-        else
-            put_text(others[below(sizeof others / sizeof others[0])]);
-}
-
-/* One long class after a gap, or between two: with dots for these it would end about the limit. */
-static void put_wide(void)
-{
-    uint32_t front = below(99), back = one_in(2) ? 0 : below(99), finished = JAZHUPPE_RULE_MOST - 3 + below(7);
-
-    put_bounds(front, front + 1 + below(99 - front));
-    put('[');
-    for (uint32_t n = finished - front - back - 2; n > 0; n--)
-        put('a');
-    put(']');
-    if (back > 0 || one_in(2))
-        put_bounds(back, back + 1 + below(99 - back));
-}
-
-static void put_element(void)
-{
-    static const char *const odd[] = {
-        "[^]", "[]", "{0,0}", "\\", "]", "}", "[a-b-c]", "[", "{1,", "{2,1}", "[b-a]", "??", "[\\^-a]", "[+-\\-]",
-        "{001,2}", "{1,63}", "{3,3}", "\\^\\-", "[^\\]]",
-    };
-    uint32_t kind = below(20);
-
-    if (kind < 10)
-        put_byte(any_letter());
-    else if (kind < 12)
-        put('.');
-    else if (kind < 15)
-        put_class();
-    else if (kind < 18)
-        put_gap();
-    else if (one_in(20))
-        put_class_of_A();
-    else if (one_in(6))
-        put_text(odd[below(sizeof odd / sizeof odd[0])]);
-    if ((kind < 15 && one_in(2)) || one_in(60))
-        put((uint8_t)"?+*"[below(3)]);
-}
-
-static void make_rule(void)
-{
-    uint32_t elements = one_in(30) ? below(90) : 1 + below(7);
-
-    now.rule_len = 0;
-    now.fold = one_in(3) ? (one_in(2) ? 1 : (uint32_t)1 << below(32)) : 0;
-    if (one_in(100))
-        elements = 0;
-    if (one_in(100)) {
-        put('[');
-        while (now.rule_len < JAZHUPPE_RULE_MOST - 5 + below(10))
-            put('a');
-        put(']');
-    }
-    if (one_in(6))
-        put_outer();
-    while (elements-- > 0)
-        put_element();
-    if (one_in(6))
-        put_outer();
-    if (one_in(100))
-        while (now.rule_len < JAZHUPPE_RULE_MOST + 1 + below(60))
-            put_byte(any_letter());
-    if (now.rule_len > 0 && one_in(25))
-        now.rule[below((uint32_t)now.rule_len)] = (uint8_t)below(256);
-}
-
-/* Keeps the rule as the stored one too. */
-static void store_rule(void)
-{
-    memcpy(now.stored, now.rule, now.rule_len);
-    now.stored_len = now.rule_len;
-}
-
-/* Goes on with the rewriting most often where outer gaps refuse the rule, as nothing more would come of it. */
-static void retire_outer_gaps(void)
-{
-    second_rewriting w;
-
-    if (second_read(now.rule, now.rule_len, now.fold).number != JAZHUPPE_OUTER_GAP || one_in(10))
-        return;
-    w = second_rewritten(now.rule, now.rule_len);
-    if (w.length > JAZHUPPE_RULE_MOST)
-        return;
-    memcpy(now.rule, w.text, w.length);
-    now.rule_len = w.length;
-}
-
-/* ---- codes */
-
-static uint8_t *set_byte(size_t k, uint8_t x)
-{
-    return &now.sets[k * JAZHUPPE_SET_BYTES + x / 8];
-}
-
-static void put_in_set(size_t k, uint8_t x)
-{
-    *set_byte(k, x) |= (uint8_t)(1 << x % 8);
-}
-
-static void put_range_in_set(size_t k, uint32_t lo, uint32_t hi)
-{
-    for (uint32_t x = lo; x <= hi; x++)
-        put_in_set(k, (uint8_t)x);
-}
-
-/* Few letters, a range, or every byte, but for the codes; seldom with a code too. */
-static void draw_set(size_t k)
-{
-    uint32_t letters = 1 + below(3), lo = below(256);
-
-    switch (below(8)) {
-    case 0: put_range_in_set(k, 0, 255); break;
-    case 1: put_range_in_set(k, lo, lo + below(256 - lo)); break;
-    case 2: put_in_set(k, one_in(2) ? 0 : 255); break;
-    default:
-        while (letters-- > 0)
-            put_in_set(k, any_letter());
-    }
-    for (size_t i = 0; i < now.codes_len; i++)
-        if (!one_in(80))
-            *set_byte(k, now.codes[i]) &= (uint8_t)~(1 << now.codes[i] % 8);
-}
-
-/* Another than the first so many, which are drawn already; seldom one of them. */
-static uint8_t draw_code(size_t drawn)
-{
-    uint8_t c;
-
-    do {
-        c = one_in(8) ? (uint8_t)(one_in(2) ? 0 : 255) : one_in(3) ? (uint8_t)below(256) : any_letter();
-    } while (memchr(now.codes, c, drawn) != NULL && !one_in(50));
-    return c;
-}
-
-/* None, some, one too many, or seldom many more; and sets for them, seldom of another length. */
-static void draw_codes(void)
-{
-    size_t sets;
-
-    now.codes_len = one_in(3) ? 0 : one_in(6) ? below(JAZHUPPE_CODES_MOST + 2) : 1 + below(one_in(100) ? CODES_ROOM : 3);
-    for (size_t k = 0; k < now.codes_len; k++)
-        now.codes[k] = draw_code(k);
-    sets = now.codes_len < SETS_MOST ? now.codes_len : SETS_MOST;
-    memset(now.sets, 0, sizeof now.sets);
-    for (size_t k = 0; k < sets; k++)
-        draw_set(k);
-    now.sets_len = sets * JAZHUPPE_SET_BYTES;
-    if (one_in(40))
-        now.sets_len = one_in(2) && now.sets_len < SETS_ROOM ? now.sets_len + 1 : below(SETS_ROOM + 1);
-}
-
-/* Reads the rule that was drawn, and codes for it: most often such as are accepted with it. */
-static void read_with_codes(void)
-{
-    second_rule alone;
-
-    store_rule();
-    retire_outer_gaps();
-    alone = second_read(now.rule, now.rule_len, now.fold);
-    do {
-        draw_codes();
-        now.read = alone;
-        second_read_codes(&now.read, now.codes, now.codes_len, now.sets, now.sets_len);
-    } while (now.read.number == JAZHUPPE_CODES && !one_in(6));
-}
-
-/* A letter, or often one of the codes. */
-static uint8_t any_plan_letter(void)
-{
-    return now.read.codes_count > 0 && one_in(3) ? now.codes[below((uint32_t)now.read.codes_count)] : any_letter();
-}
-
-/* ---- plans */
-
-static void plan_byte(uint8_t c)
-{
-    if (now.plan_len < now.plan_most)
-        now.plan[now.plan_len++] = c;
-}
-
-static void plan_text(const char *s)
-{
-    while (*s != '\0')
-        plan_byte((uint8_t)*s++);
-}
-
-/* A reference to the byte; one in four is padded, to about as many bytes as a form may have. */
-static void plan_reference(uint8_t c)
-{
-    int digits = one_in(4) ? 25 + (int)below(7) : 1;
-    char form[48];
-
-    snprintf(form, sizeof form, one_in(2) ? "&#%0*u;" : one_in(2) ? "&#x%0*X;" : "&#x%0*x;", digits, (unsigned)c);
-    plan_text(form);
-}
-
-/* A byte as it is, or spelt as a reference. */
-static void plan_spelt(uint8_t c)
-{
-    if (one_in(6))
-        plan_reference(c);
-    else
-        plan_byte(c);
-}
-
-static uint8_t any_that_fits(const second_rule *rule, size_t i)
-{
-    uint8_t c = any_plan_letter();
-
-    for (int tries = 0; tries < 400 && !second_fits(rule, i, c); tries++)
-        c = tries < 40 ? any_plan_letter() : (uint8_t)below(256);
-    return c;
-}
-
-/* Bytes that fill the rule's positions, but for one that is left out now and then. */
-static void plan_occurrence(void)
-{
-    uint32_t seldom = now.read.count > 30 ? 4 * (uint32_t)now.read.count : 30;
-
-    for (size_t i = 0; i < now.read.count; i++) {
-        const second_position *p = &now.read.positions[i];
-        uint32_t bytes = p->repeatable ? 1 + below(3) : 1;
-
-        if (one_in(seldom) || (p->optional && one_in(2)))
-            continue;
-        while (bytes-- > 0)
-            plan_spelt(any_that_fits(&now.read, i));
-    }
-}
-
-static void plan_part(void)
-{
-    static const char *const parts[] = {
-        "&amp;", "&lt;", "&gt;", "&apos;", "&quot;", "&amp;amp;", "&#38;", "&#x26;", "&#xE9;", "&#0;", "&am", "&", "&#",
-        "&#x", "&#12345678", "&#1234567", "&#xD7FF;", "&#xD800;", "&#xFFFE;", "&#x10FFFF;", "&#x110000;", "&#9;",
-        "&#8;", "&#00000038;", "&#x00000026;", "&AMP;", "&#X26;", "&amp", "&#;", "&#x;", "&&amp;", ";",
-        "&#4294967334;", "&#x10000000000000026;", "&#79228162514264337593543950374;", "&#65533;", "&#xDFFF;", "&#31;",
-        "&#x0000000000000000000000000000;", "&#000000000000000000000000000000;", "&nbsp;",
-    };
-
-    if (one_in(3))
-        plan_text(parts[below(sizeof parts / sizeof parts[0])]);
-    else if (one_in(8))
-        plan_reference(any_plan_letter());
-    else if (one_in(2))
-        plan_occurrence();
-    else
-        for (uint32_t n = below(6); n > 0; n--)
-            plan_byte(any_plan_letter());
-}
-
-static void plan_run(uint8_t c)
-{
-    for (uint32_t n = below(150); n > 0; n--)
-        plan_byte(c);
-}
-
-/* A short plan, or a longer one in which the same byte stands between the parts. */
-static void make_plan(void)
-{
-    uint8_t between = any_plan_letter();
-
-    now.plan_len = 0;
-    now.plan_most = one_in(30) ? 400 : 64;
-    for (uint32_t parts = below(7); parts > 0; parts--) {
-        plan_part();
-        if (now.plan_most > 64)
-            plan_run(between);
-    }
-}
-
-/* A rule and a plan for which verifying each start to its end would take the square of the plan's length. */
-static void make_hostile(void)
-{
-    static const char *const rules[] = {"a.*b", "a+b", "a{0,2}.*b", "a.+c?b", "[ab]*c", "aa*[^a]"};
-
-    now.rule_len = 0;
-    now.fold = 0;
-    put_text(rules[below(sizeof rules / sizeof rules[0])]);
-    read_with_codes();
-    now.plan_len = 0;
-    now.plan_most = PLAN_MOST;
-    while (now.plan_len < now.plan_most) {
-        plan_run('a');
-        if (one_in(12))
-            plan_part();
-    }
-}
-
-/* A rule with optional parts and a long plan of its own letters, on which it cannot be foreseen what a byte changes. */
-static void make_dense(void)
-{
-    static const char *const rules[] = {"[0-9]+[.,]?[0-9]?[0-9]? ?E?U?R", "[0-9]+[.,]?[0-9] ?E?U?R", "ab?c?d?a", "a.*b", "[AZ][az]+ {0,9}[09]+", "xa*y?x"};
-    const char *rule = rules[below(sizeof rules / sizeof rules[0])];
-    char letters[32];
-    uint32_t n = 0;
-
-    now.rule_len = 0;
-    now.fold = 0;
-    put_text(rule);
-    read_with_codes();
-    for (const char *p = rule; *p; p++)
-        if (!strchr(".[]{}?+*-", *p))
-            letters[n++] = *p;
-    now.plan_most = PLAN_MOST;
-    for (now.plan_len = 0; now.plan_len < now.plan_most; now.plan_len++)
-        now.plan[now.plan_len] = now.read.codes_count > 0 && one_in(8) ? any_plan_letter() : (uint8_t)letters[below(n)];
-}
-
-/* So many positions, of few letters; blocks of optional ones and repeats stand at the borders of words most often. */
-static void put_positions(uint32_t count)
-{
-    uint32_t letters = one_in(10) ? 1 : 2 + below(2), marks = one_in(3) ? 0 : 8;
-
-    while (count > 0) {
-        uint32_t made = (uint32_t)JAZHUPPE_POSITIONS_MOST - count, border = 64 - (made + 1) % 64, most = count < 99 ? count : 99;
-
-        if (marks > 0 && most > 1 && one_in(border < 4 ? 8 : 200)) {
-            uint32_t hi = 1 + below(most);
-
-            put_bounds(below(hi + 1), hi);
-            count -= hi;
-            continue;
-        }
-        put((uint8_t)('a' + below(letters)));
-        if (marks > 0 && one_in(border < 4 || border > 62 ? 2 : marks))
-            put((uint8_t)"?+*"[below(3)]);
-        count--;
-    }
-}
-
-/* A rule of many positions, as many as end about the border of a word or any number, and a plan of its occurrences, whole, in
- * part and nearly. */
-static void make_long(void)
-{
-    static const uint32_t near[] = {62, 63, 64, 65, 126, 127, 128, 129, 190, 191, 192, 193, 253, 254, 255, 256, 257, 300};
-    uint32_t count = one_in(2) ? near[below(sizeof near / sizeof near[0])] : 1 + below(256);
-
-    now.rule_len = 0;
-    now.fold = one_in(8);
-    put_positions(count);
-    read_with_codes();
-    now.plan_len = 0;
-    now.plan_most = 300 + below(400);
-    while (now.plan_len < now.plan_most) {
-        size_t before = now.plan_len;
-
-        plan_occurrence();
-        /* Of this one alone: the plan of a short rule would else not come to its length. */
-        if (one_in(3))
-            now.plan_len -= below((uint32_t)(now.plan_len - before) + 1);
-        if (one_in(2))
-            plan_part();
-        else
-            plan_byte((uint8_t)('a' + below(3)));
-    }
-}
-
-/* A rule whose rewriting may be too long. */
-static void make_wide(void)
-{
-    now.rule_len = 0;
-    now.fold = one_in(3);
-    put_wide();
-    read_with_codes();
-    make_plan();
-}
-
 /* ---- names and patterns */
 
 static void name_byte(uint8_t c)
 {
-    if (now.name_len < PLAN_MOST)
-        now.name[now.name_len++] = c;
+    if (beside.name_len < PLAN_MOST)
+        beside.name[beside.name_len++] = c;
 }
 
 static void name_letters(uint32_t count)
@@ -684,19 +194,19 @@ static void name_letters(uint32_t count)
 /* One byte more, less or other, or none is left; most often it stays. */
 static void spoil_name(void)
 {
-    size_t at = below((uint32_t)now.name_len + 1), behind = now.name_len - at;
+    size_t at = below((uint32_t)beside.name_len + 1), behind = beside.name_len - at;
 
     if (one_in(30)) {
-        now.name_len = 0;
-    } else if (one_in(6) && now.name_len < PLAN_MOST) {
-        memmove(now.name + at + 1, now.name + at, behind);
-        now.name[at] = any_letter();
-        now.name_len++;
+        beside.name_len = 0;
+    } else if (one_in(6) && beside.name_len < PLAN_MOST) {
+        memmove(beside.name + at + 1, beside.name + at, behind);
+        beside.name[at] = any_letter();
+        beside.name_len++;
     } else if (one_in(6) && behind > 0) {
-        memmove(now.name + at, now.name + at + 1, behind - 1);
-        now.name_len--;
+        memmove(beside.name + at, beside.name + at + 1, behind - 1);
+        beside.name_len--;
     } else if (one_in(6) && behind > 0) {
-        now.name[at] = one_in(2) ? now.name[at] ^ 0x20 : any_letter();
+        beside.name[at] = one_in(2) ? beside.name[at] ^ 0x20 : any_letter();
     }
 }
 
@@ -705,10 +215,10 @@ static void make_name(const second_rule *rule)
 {
     uint32_t more = one_in(6) ? 1 + below(2) : 0, times = one_in(12) ? 2 : 1;
 
-    now.name_len = 0;
+    beside.name_len = 0;
     if (one_in(10)) {
-        memcpy(now.name, now.plan, now.plan_len);
-        now.name_len = now.plan_len;
+        memcpy(beside.name, now.plan, now.plan_len);
+        beside.name_len = now.plan_len;
         return;
     }
     name_letters(one_in(2) ? more : 0);
@@ -723,8 +233,8 @@ static void make_name(const second_rule *rule)
 
 static void pattern_byte(uint8_t c)
 {
-    if (now.pattern_len < PATTERN_MOST)
-        now.pattern[now.pattern_len++] = c;
+    if (beside.pattern_len < PATTERN_MOST)
+        beside.pattern[beside.pattern_len++] = c;
 }
 
 static void pattern_item(void)
@@ -761,22 +271,22 @@ static void make_pattern(void)
 {
     uint32_t items = one_in(20) ? 230 + below(50) : one_in(40) ? 0 : 1 + below(8);
 
-    now.pattern_len = 0;
+    beside.pattern_len = 0;
     if (one_in(8))
         pattern_row();
     else
         while (items-- > 0)
             pattern_item();
-    if (now.pattern_len > 0 && one_in(10))
-        now.pattern[one_in(3) ? now.pattern_len - 1 : below((uint32_t)now.pattern_len)] = '\\';
+    if (beside.pattern_len > 0 && one_in(10))
+        beside.pattern[one_in(3) ? beside.pattern_len - 1 : below((uint32_t)beside.pattern_len)] = '\\';
 }
 
 /* A name that the pattern accepts, or nearly one. */
 static void make_name_of_pattern(void)
 {
-    now.name_len = 0;
-    for (size_t at = 0; at < now.pattern_len; at++) {
-        uint8_t c = now.pattern[at];
+    beside.name_len = 0;
+    for (size_t at = 0; at < beside.pattern_len; at++) {
+        uint8_t c = beside.pattern[at];
 
         if (c == '%')
             name_letters(one_in(2) ? below(4) : 0);
@@ -784,36 +294,10 @@ static void make_name_of_pattern(void)
             name_letters(1);
         else if (c != '\\')
             name_byte(c);
-        else if (++at < now.pattern_len)
-            name_byte(now.pattern[at]);
+        else if (++at < beside.pattern_len)
+            name_byte(beside.pattern[at]);
     }
     spoil_name();
-}
-
-/* A list's or buffer's length: what is needed, one less, none, or more. */
-static size_t list_length(size_t needed)
-{
-    switch (below(10)) {
-    case 0: return needed == 0 ? 0 : needed - 1;
-    case 1: return one_in(3) ? 0 : needed;
-    case 2: return needed + 1 + below(5);
-    default: return needed;
-    }
-}
-
-static const uint8_t *lend_rule(void)
-{
-    return lend_bytes(&rule_room, now.rule, now.rule_len);
-}
-
-static const uint8_t *lend_codes(void)
-{
-    return lend_bytes(&codes_room, now.codes, now.codes_len);
-}
-
-static const uint8_t *lend_sets(void)
-{
-    return lend_bytes(&sets_room, now.sets, now.sets_len);
 }
 
 /* ---- the scan */
@@ -1008,8 +492,8 @@ static size_t finder_ends(const uint8_t *rule, size_t length, uint32_t *ends)
 
 static size_t finder_starts(const uint8_t *rule, size_t length, uint32_t *starts)
 {
-    jazhuppe_answer a = jazhuppe_search(rule, length, now.fold, now.codes, now.codes_len, now.sets, now.sets_len, now.text,
-                                        now.text_len, starts, now.text_len);
+    jazhuppe_answer a = jazhuppe_search(rule, length, now.fold, now.codes, now.codes_len, now.sets, now.sets_len,
+                                        beside.text, beside.text_len, starts, beside.text_len);
 
     if (a.number != 0)
         different("a search with a rewriting");
@@ -1032,11 +516,11 @@ static void try_kept(const second_rule *stored, const second_rewriting *w)
     size_t kept;
 
     if (w->back == 0) {
-        kept = second_ends(stored, now.text, now.text_len, expected);
+        kept = second_ends(stored, beside.text, beside.text_len, expected);
         hold_kept("the ends of a rewriting", given, finder_ends(w->text, w->length, given), expected, kept);
         kept_ends_seen += kept;
     } else if (w->front == 0) {
-        kept = second_starts(stored, now.text, now.text_len, expected);
+        kept = second_starts(stored, beside.text, beside.text_len, expected);
         hold_kept("the starts of a rewriting", given, finder_starts(w->text, w->length, given), expected, kept);
         kept_starts_seen += kept;
     }
@@ -1086,10 +570,10 @@ static void try_search(void)
 {
     static uint32_t expected_starts[PLAN_MOST];
     bool big = one_in(50);
-    size_t length = big ? over : now.text_len, list = list_length(now.text_len);
-    const uint8_t *text = big ? too_much : lend_bytes(&text_room, now.text, now.text_len);
+    size_t length = big ? over : beside.text_len, list = list_length(beside.text_len);
+    const uint8_t *text = big ? too_much : lend_bytes(&text_room, beside.text, beside.text_len);
     jazhuppe_answer expected = second_search(now.rule, now.rule_len, now.fold, now.codes, now.codes_len, now.sets,
-                                             now.sets_len, big ? too_much : now.text, length, expected_starts, list);
+                                             now.sets_len, big ? too_much : beside.text, length, expected_starts, list);
     uint32_t *starts = lend(&list_room, list * sizeof *starts);
 
     note("search of %zu with a list of %zu\n", length, list);
@@ -1105,11 +589,11 @@ static void try_search(void)
 
 static void try_show(void)
 {
-    const uint8_t *text = lend_bytes(&text_room, now.text, now.text_len), *rule = lend_rule();
+    const uint8_t *text = lend_bytes(&text_room, beside.text, beside.text_len), *rule = lend_rule();
 
-    for (size_t start = 0; start <= now.text_len + 1; start++) {
-        jazhuppe_span given = jazhuppe_show(rule, now.rule_len, now.fold, text, now.text_len, start);
-        jazhuppe_span expected = second_show(now.rule, now.rule_len, now.fold, now.text, now.text_len, start);
+    for (size_t start = 0; start <= beside.text_len + 1; start++) {
+        jazhuppe_span given = jazhuppe_show(rule, now.rule_len, now.fold, text, beside.text_len, start);
+        jazhuppe_span expected = second_show(now.rule, now.rule_len, now.fold, beside.text, beside.text_len, start);
 
         counts[SHOW][0]++;
         shown_seen += expected.from < expected.to;
@@ -1124,12 +608,12 @@ static void try_show(void)
 
 /* ---- whole names and LIKE */
 
-/* The name of now, or memory over the limit: whether it is covered. */
+/* The name that was made, or memory over the limit: whether it is covered. */
 static bool try_covers(const uint8_t *rule, size_t rule_len, uint32_t fold, bool big)
 {
-    size_t length = big ? over : now.name_len;
-    const uint8_t *name = big ? too_much : lend_bytes(&text_room, now.name, now.name_len);
-    jazhuppe_covered expected = second_covers(rule, rule_len, fold, big ? too_much : now.name, length);
+    size_t length = big ? over : beside.name_len;
+    const uint8_t *name = big ? too_much : lend_bytes(&text_room, beside.name, beside.name_len);
+    jazhuppe_covered expected = second_covers(rule, rule_len, fold, big ? too_much : beside.name, length);
 
     note("covers with fold %lu, of %zu\n", (unsigned long)fold, length);
     hold_covered(jazhuppe_covers(lend_bytes(&rule_room, rule, rule_len), rule_len, fold, name, length), expected);
@@ -1151,9 +635,9 @@ static void try_names(void)
 /* Into a buffer of so many bytes: the text's length. */
 static size_t try_import(size_t room, bool big, uint8_t *text)
 {
-    size_t length = big ? over : now.pattern_len;
-    const uint8_t *pattern = big ? too_much : lend_bytes(&rule_room, now.pattern, now.pattern_len);
-    jazhuppe_text expected = second_import_like(big ? too_much : now.pattern, length, text, room);
+    size_t length = big ? over : beside.pattern_len;
+    const uint8_t *pattern = big ? too_much : lend_bytes(&rule_room, beside.pattern, beside.pattern_len);
+    jazhuppe_text expected = second_import_like(big ? too_much : beside.pattern, length, text, room);
     uint8_t *out = lend(&list_room, room);
 
     note("import of %zu into %zu\n", length, room);
@@ -1163,10 +647,10 @@ static size_t try_import(size_t room, bool big, uint8_t *text)
     return expected.length;
 }
 
-/* The imported rule covers the name of now exactly where LIKE accepts it. */
+/* The imported rule covers the name that was made exactly where LIKE accepts it. */
 static void try_like(const uint8_t *text, size_t length)
 {
-    bool accepted = second_like(now.pattern, now.pattern_len, now.name, now.name_len);
+    bool accepted = second_like(beside.pattern, beside.pattern_len, beside.name, beside.name_len);
 
     if (try_covers(text, length, 0, false) != accepted)
         different(accepted ? "a name that LIKE accepts" : "a name that LIKE does not accept");
@@ -1195,8 +679,8 @@ static void try_pattern(void)
 static void count_smudges(void)
 {
     smudged_seen += now.read.codes_count > 0;
-    for (size_t i = 0; i < now.text_len; i++)
-        smudges_seen += now.read.codes_count > 0 && memchr(now.codes, now.text[i], now.codes_len) != NULL;
+    for (size_t i = 0; i < beside.text_len; i++)
+        smudges_seen += now.read.codes_count > 0 && memchr(now.codes, beside.text[i], now.codes_len) != NULL;
 }
 
 static void begin_case(void)
@@ -1215,8 +699,8 @@ static void begin_case(void)
 static void try_case(void)
 {
     begin_case();
-    now.text_len = second_decoded(now.plan, now.plan_len, now.text);
-    decoded_seen += now.text_len < now.plan_len;
+    beside.text_len = second_decoded(now.plan, now.plan_len, beside.text);
+    decoded_seen += beside.text_len < now.plan_len;
     count_smudges();
     note("prepare\n");
     hold_prepared(PREPARE, jazhuppe_prepare(lend_rule(), now.rule_len, now.fold),
@@ -1232,19 +716,7 @@ static void try_case(void)
 
 static void draw_case(void)
 {
-    if (one_in(150)) {
-        make_wide();
-    } else if (one_in(700)) {
-        make_hostile();
-    } else if (one_in(500)) {
-        make_dense();
-    } else if (one_in(40)) {
-        make_long();
-    } else {
-        make_rule();
-        read_with_codes();
-        make_plan();
-    }
+    draw_rule_and_plan();
     try_case();
     make_pattern();
     try_pattern();
@@ -1330,14 +802,14 @@ static bool decodes_to(const char *raw, const char *hexadecimal)
 
 static void take_name(const char *name)
 {
-    now.name_len = 0;
+    beside.name_len = 0;
     while (*name != '\0')
         name_byte((uint8_t)*name++);
 }
 
 static void take_pattern(const char *pattern)
 {
-    now.pattern_len = 0;
+    beside.pattern_len = 0;
     while (*pattern != '\0')
         pattern_byte((uint8_t)*pattern++);
 }
@@ -1368,7 +840,7 @@ static void try_written_pattern(const char *pattern, const char *rule, char *nam
 
         take_name(names + 1);
         if ((names[0] != '+' && names[0] != '-') ||
-            second_like(now.pattern, now.pattern_len, now.name, now.name_len) != (names[0] == '+'))
+            second_like(beside.pattern, beside.pattern_len, beside.name, beside.name_len) != (names[0] == '+'))
             different("a written name");
         try_like(text, length);
         names = rest;
@@ -1382,7 +854,7 @@ static void try_written_refusal(const char *pattern, const char *number, const c
 
     begin_case();
     take_pattern(pattern);
-    t = second_import_like(now.pattern, now.pattern_len, text, sizeof text);
+    t = second_import_like(beside.pattern, beside.pattern_len, text, sizeof text);
     if (place == NULL || t.number != strtoul(number, NULL, 10) || t.place != strtoul(place, NULL, 10))
         different("a written refusal");
     try_import(JAZHUPPE_IMPORT_BUFFER, false, text);
