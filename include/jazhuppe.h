@@ -6,7 +6,8 @@
  *                      the ends of occurrences, with the same memory for a plan of any length;
  *   the window search  jazhuppe_decode the raw plan, then jazhuppe_search its decoded text: the starts.
  *
- * Beside them jazhuppe_covers says whether a rule covers a seat name whole.
+ * Beside them jazhuppe_covers says whether a rule covers a seat name whole, and jazhuppe_turn whose piece is next where
+ * up to eight feeds arrive together.
  *
  * RULE. 1 to 1,023 bytes, never decoded. Any byte but a mark (. [ ] { } ? + * \) stands for itself; \ before a mark, ^ or -
  * gives that byte; . is any byte; [..] is a class of bytes and ranges lo-hi, turned round by a first ^; {a,b} is a gap
@@ -27,6 +28,15 @@
  * place by itself; any other byte fits when it is in the position's set. So a code in a rule's own set counts for nothing.
  * Fold does nothing to codes and their sets. Without codes both lengths are 0.
  *
+ * TURNS. Feeds 0 to 7 arrive together, each with its own scan, and a dispatcher says whose piece is next. It is two numbers,
+ * which the host keeps and hands on from call to call: bit f of `waiting`, the lowest being 0, says that feed f has a piece
+ * waiting, and bits 8 to 31 are ignored and kept; `last` is the feed last served, and above 7 it reads as 7. It opens with
+ * waiting 0 and last JAZHUPPE_LAST_AT_OPENING. jazhuppe_offer takes the number of a feed that has a piece, whose bytes stay
+ * with the host; jazhuppe_turn names the next waiting feed, and the host then feeds that piece to its scan. A piece that the
+ * scan refuses counts as served; finishes are the host's own, and are not offered. Over calls each handed what the last one
+ * left, an accepted offer's piece is served within 8 turns, and never before an earlier one of its feed. Each feed's ends
+ * are those that it gets alone from the same feeds and finishes, in the same order, with the same list lengths.
+ *
  * LENDER'S DUTIES. A call is lent slices, each a pointer and a length in entries:
  *
  *   - each slice is memory of the length named, aligned for its entries;
@@ -34,13 +44,14 @@
  *   - nobody else touches the slices until the call returns;
  *   - a pointer may be NULL where its length is 0.
  *
- * Nothing else is asked: whatever the bytes and numbers in them, a call returns a finished result or one of the fifteen
- * refusals below. A call keeps no pointer, allocates nothing and has no other state than what it is lent, so calls on
- * different slices may run at the same time.
+ * Nothing else is asked: whatever the bytes and numbers in them, a call returns a finished result or one of the sixteen
+ * refusals below. A call keeps no pointer, allocates nothing and has no other state than what it is lent or handed, so calls
+ * on different slices may run at the same time.
  *
  * REFUSALS. A finished result has number 0 and place 0. A refusal has its number, its place (0 where none is given) and
- * zeros beside them, and leaves lists, buffers and the scan value as they were. A finished call writes as many entries
- * as it reports; past them a list or buffer is as it was.
+ * zeros beside them (an offer's has the dispatcher's numbers there, as they were handed over), and leaves lists, buffers and
+ * the scan value as they were. A finished call writes as many entries as it reports; past them a list or buffer is as it
+ * was.
  */
 #ifndef JAZHUPPE_H
 #define JAZHUPPE_H
@@ -57,7 +68,7 @@ extern "C" {
 /* The refusals. 1 and 2 come first, then the leftmost of 3 to 7 (an element's own fault before 7), then 8, then 16.
  * An opening checks the rule, then 15, then 11; a call on a whole text or name the rule, then 15, 10, 9; a scan call
  * 11, 12, 10, 9; a rewriting 9, then the rule by 1 to 8 alone, then its finished text by 2; an import 9, 10, 14, then its
- * finished text by 1, 2, 7, 8, whose places count there. No call gives 13. */
+ * finished text by 1, 2, 7, 8, whose places count there; an offer 18 alone. No call gives 13 or 17. */
 #define JAZHUPPE_RULE_EMPTY 1    /* rule, or an import's pattern, of length 0; place 0 */
 #define JAZHUPPE_RULE_LONG 2     /* rule, or the finished text of a rewriting or an import, over 1,023 bytes; place 1,023 */
 #define JAZHUPPE_CLASS 3         /* class unclosed, empty, with a reversed range, a bad \ or misplaced -, or left with
@@ -77,6 +88,7 @@ extern "C" {
                                     empty or with a code in it, or a position whose set, folded, is of codes alone;
                                     place 0 */
 #define JAZHUPPE_OUTER_GAP 16    /* the first or last element is a gap with a < b; place of the { of the first such gap */
+#define JAZHUPPE_OFFER 18        /* an offer's feed number above 7, or of a feed that has a piece waiting already; place 0 */
 
 /* The limits. */
 #define JAZHUPPE_RULE_MOST 1023          /* bytes of a rule */
@@ -86,6 +98,10 @@ extern "C" {
 #define JAZHUPPE_TEXT_MOST 4294967295u   /* bytes of a text, a name or a pattern, or of all the pieces of a plan */
 #define JAZHUPPE_SCAN_WORDS 1045         /* the length of a scan value */
 #define JAZHUPPE_HELD_MOST 31            /* bytes that a scan holds back between pieces */
+#define JAZHUPPE_FEEDS 8                 /* feeds of a dispatcher: 0 to 7 */
+
+/* What counts as last served where a dispatcher opens; nobody waits then. */
+#define JAZHUPPE_LAST_AT_OPENING 7
 
 /* The entries that the list of a feed with a piece of so many bytes needs, and that of a finish. */
 #define JAZHUPPE_FEED_LIST(piece_len) ((piece_len) + JAZHUPPE_HELD_MOST)
@@ -126,6 +142,22 @@ typedef struct {
     uint32_t place;    /* where in the rule */
     uint32_t covered;  /* 1 if the rule covers the name, else 0 */
 } jazhuppe_covered;
+
+/* What an offer comes to. */
+typedef struct {
+    uint32_t number;   /* 0, or the refusal */
+    uint32_t place;    /* 0 */
+    uint32_t waiting;  /* the dispatcher's numbers, for the next call */
+    uint32_t last;
+} jazhuppe_offered;
+
+/* What a turn comes to. */
+typedef struct {
+    uint32_t served;   /* 1, or 0 where nobody waits */
+    uint32_t feed;     /* whose piece is served, 0 to 7; 0 where nobody waits */
+    uint32_t waiting;  /* the dispatcher's numbers, for the next call */
+    uint32_t last;
+} jazhuppe_served;
 
 /* A part of a text: its bytes from `from` up to, but without, `to`. */
 typedef struct {
@@ -185,6 +217,16 @@ jazhuppe_span jazhuppe_show(const uint8_t *rule, size_t rule_len, uint32_t fold,
  * is taken as it comes, with nothing decoded, and it takes no codes. No rule covers the empty name.
  * Refusals 1 to 8, 16, then 10. */
 jazhuppe_covered jazhuppe_covers(const uint8_t *rule, size_t rule_len, uint32_t fold, const uint8_t *name, size_t name_len);
+
+/* Offers a piece of a feed, of any length, also empty: says that it waits. The host keeps its bytes until the turn that
+ * names the feed. The dispatcher's `last` stays as it was.
+ * Refusal 18, which leaves both its numbers as they were. */
+jazhuppe_offered jazhuppe_offer(uint32_t waiting, uint32_t last, uint32_t feed);
+
+/* Takes a turn: names the next waiting feed after the one last served, going round, the last served itself coming last. Its
+ * piece no longer waits, and it is the last served. It gives no number: where nobody of 0 to 7 waits it says so, and both
+ * the dispatcher's numbers stay as they were. */
+jazhuppe_served jazhuppe_turn(uint32_t waiting, uint32_t last);
 
 /* THE SCAN VALUE is JAZHUPPE_SCAN_WORDS numbers. It may be copied, kept and taken up again, in another process too:
  *

@@ -1,5 +1,5 @@
 #!/bin/sh
-# Runs the host tests, which make has built: under valgrind where it is there. CC, CXX and PROGRAM are make's.
+# Runs the host tests, which make has built: under valgrind where it is there. CC, CXX, PROGRAM and VENUES are make's.
 cd "$(dirname "$0")/../.." || exit 2
 failed=0
 
@@ -22,6 +22,16 @@ header() {
     "$@" -Wall -Wextra -Wpedantic -Werror -fsyntax-only include/jazhuppe.h && echo "ok the header, as $*"
 }
 
+# What it prints is held elsewhere.
+eight_feeds() {
+    set --
+    for file in host/sample.xml host/sample.sh host/jazhuppe.1 host/test/cases.txt /dev/null host/venues.c Makefile \
+        include/jazhuppe.h; do
+        set -- "$@" 'Row A&B [0-9]+' "$file"
+    done
+    watched "${VENUES:-build/venues}" "$@" > /dev/null
+}
+
 try "header" header "${CC:-cc}" -std=c99 -x c
 if command -v "${CXX:-c++}" > /dev/null; then
     try "header" header "${CXX:-c++}" -std=c++11 -x c++
@@ -31,6 +41,8 @@ fi
 try "marked" watched build/test/marked
 try "refusals" watched build/test/refusals
 try "scan values" watched build/test/scan_values
+try "turns, watched" watched build/test/turns 2 40
+try "turns" build/test/turns
 # It maps gigabytes, which valgrind would count byte by byte.
 try "limits" build/test/limits
 try "differential, watched" watched build/test/differential 2 300
@@ -46,5 +58,7 @@ try "program, watched, --rewrite" watched "${PROGRAM:-build/jazhuppe}" --rewrite
 try "program, watched, --like" watched "${PROGRAM:-build/jazhuppe}" --like 'Row A&B \_%[_]'
 try "program, watched, --like with names" watched "${PROGRAM:-build/jazhuppe}" --like 'Row A&B %_' '' 'Row A&B 12' 'Row A&B '
 try "command line" sh host/test/cli.sh
+try "venues, watched" eight_feeds
+try "venues" sh host/test/venues.sh
 [ "$failed" -eq 0 ] && echo "host tests: all ok"
 exit "$failed"

@@ -554,6 +554,26 @@ static void test_null_names(void)
     CHECK(untouched(&list_room) && untouched(&rule_room));
 }
 
+/* An offer is lent nothing; a refused one hands the dispatcher's numbers back as they came. turns.c has the rest. */
+static void test_offers(void)
+{
+    static const struct {
+        uint32_t waiting, last, feed, number;
+    } offers[] = {
+        {0, 7, 0, 0}, {0, 7, 7, 0}, {0, 7, 8, 18}, {0, 7, UINT32_MAX, 18}, {0x01, 7, 0, 18}, {0x01, 7, 1, 0},
+        {0xFFFFFF7F, 200, 7, 0}, {0xFFFFFFFF, 200, 7, 18}, {0xFFFFFEFF, 8, 8, 18}, {0x100, 9, 0, 0},
+    };
+
+    for (size_t i = 0; i < sizeof offers / sizeof offers[0]; i++) {
+        jazhuppe_offered o = jazhuppe_offer(offers[i].waiting, offers[i].last, offers[i].feed);
+        bool refused = offers[i].number != 0;
+
+        about("offer of feed %lu, waiting %08lX", (unsigned long)offers[i].feed, (unsigned long)offers[i].waiting);
+        CHECK(o.number == offers[i].number && o.place == 0 && o.last == offers[i].last);
+        CHECK((o.waiting == offers[i].waiting) == refused);
+    }
+}
+
 static void test_show(void)
 {
     const uint8_t *rule = lend_bytes(&rule_room, "a", 1), *text = lend_bytes(&text_room, "ba", 2);
@@ -589,6 +609,7 @@ static void run_all(void)
     run("NULL with length 0", test_null);
     run("NULL with length 0, rewriting", test_null_rewriting);
     run("NULL with length 0, whole names and patterns", test_null_names);
+    run("18: an offer", test_offers);
     run("show gives no number", test_show);
 }
 

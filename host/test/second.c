@@ -908,3 +908,39 @@ jazhuppe_covered second_covers(const uint8_t *rule, size_t rule_len, uint32_t fo
         c.covered = fills(cuts_from(&read, name, name_len, 0), read.count, name_len);
     return c;
 }
+
+/* ---- turns */
+
+/* Whether bit f, the lowest being 0, is set. */
+static bool waits(uint32_t waiting, uint32_t f)
+{
+    return (waiting >> f) % 2 == 1;
+}
+
+jazhuppe_offered second_offer(uint32_t waiting, uint32_t last, uint32_t feed)
+{
+    jazhuppe_offered o = {0, 0, waiting, last};
+
+    if (feed > 7 || waits(waiting, feed))
+        o.number = JAZHUPPE_OFFER;
+    else
+        o.waiting += (uint32_t)1 << feed;
+    return o;
+}
+
+jazhuppe_served second_turn(uint32_t waiting, uint32_t last)
+{
+    jazhuppe_served s = {0, 0, waiting, last};
+    uint32_t from = last > 7 ? 7 : last;
+
+    for (uint32_t step = 1; step <= 8 && s.served == 0; step++) {
+        uint32_t f = (from + step) % 8;
+
+        if (waits(waiting, f)) {
+            s.served = 1;
+            s.feed = s.last = f;
+            s.waiting -= (uint32_t)1 << f;
+        }
+    }
+    return s;
+}

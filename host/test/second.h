@@ -1,6 +1,7 @@
 /* second.h: a second implementation, straight from the definitions: occurrences by cutting into shares, references by
  * spelling, codes by what two sets share, a scan that keeps all bytes taken, a rewriting that reads the whole text anew
- * before each step, an import whose text is read as a rule, LIKE without rules. No masks, no states. For small plans. */
+ * before each step, an import whose text is read as a rule, LIKE without rules, turns by a walk from feed to feed. No masks,
+ * no states. For small plans. */
 #ifndef SECOND_H
 #define SECOND_H
 
@@ -93,5 +94,7 @@ jazhuppe_answer second_search(const uint8_t *rule, size_t rule_len, uint32_t fol
 jazhuppe_span second_show(const uint8_t *rule, size_t rule_len, uint32_t fold, const uint8_t *text, size_t text_len,
                           size_t start);
 jazhuppe_covered second_covers(const uint8_t *rule, size_t rule_len, uint32_t fold, const uint8_t *name, size_t name_len);
+jazhuppe_offered second_offer(uint32_t waiting, uint32_t last, uint32_t feed);
+jazhuppe_served second_turn(uint32_t waiting, uint32_t last);
 
 #endif

@@ -37,7 +37,8 @@ pub pieces-are-bytes : (cs : List Made) (s : List ℕ) → HandedOn s cs → Pie
 pieces-are-bytes [] s m = tt
 pieces-are-bytes (c ∷ cs) s m = (met-bytes (c .request) s (c .lent) (c .answer) (c .value) (c .list) (m .0), pieces-are-bytes cs (c .value) (m .1))
 
-agree : (cs : List Made) (s : List ℕ) → HandedOn s cs → AllAgree cs (runFrom s (callsOf cs))
+-- The answers are those of a run from the scan value, whatever it is.
+pub agree : (cs : List Made) (s : List ℕ) → HandedOn s cs → AllAgree cs (runFrom s (callsOf cs))
 agree [] s m = tt
 agree (c ∷ cs) s m = go (numberOf s call) refl (agree cs)
   where

@@ -49,6 +49,9 @@ pub const CODES_FAULT: u32 = 15;
 // "a rule's first or last element is a gap with a < b"
 pub const OUTER_GAP: u32 = 16;
 
+// "an offer's feed number is above 7 or that feed already has a piece waiting"
+pub const OFFER_FAULT: u32 = 18;
+
 // What a call on a scan or on a whole text answers. `windows` is a search's, and 0 in any other answer.
 #[repr(C)]
 pub struct Answer {
@@ -81,6 +84,24 @@ pub struct Covered {
     pub number: u32,
     pub place: u32,
     pub covered: u32,
+}
+
+// What an offer answers, with the dispatcher's state: which feeds wait, and the one last served.
+#[repr(C)]
+pub struct Offered {
+    pub number: u32,
+    pub place: u32,
+    pub waiting: u32,
+    pub last: u32,
+}
+
+// What a turn answers, with that state: `served` is 1 or, with nobody waiting, 0.
+#[repr(C)]
+pub struct Served {
+    pub served: u32,
+    pub feed: u32,
+    pub waiting: u32,
+    pub last: u32,
 }
 
 // A part of a text, as its two places.

@@ -6,11 +6,14 @@ ghost use Rattle.jazhuppe.specs.Preparing.{PrepareIs};
 ghost use Rattle.rule_rewriter.specs.Rewriting.{RewriteIs};
 ghost use Rattle.like_importer.specs.Importing.{ImportIs};
 ghost use Rattle.whole_match.specs.Covering.{CoversIs};
+ghost use Rattle.dispatcher.specs.Dispatching.{OfferIs, TurnIs};
 ghost use Rattle.text_search.specs.Searching.{SearchIs};
 ghost use Rattle.text_show.specs.Showing.{ShownIs};
 use answers::Answer;
 use answers::Covered;
+use answers::Offered;
 use answers::Opened;
+use answers::Served;
 use answers::Span;
 use answers::Text;
 
@@ -80,6 +83,22 @@ pub extern "C" fn jazhuppe_finish(scan: &mut [u64], ends: &mut [u32]) -> Answer
     ensures { λ r. ⌜ FinishIs (now (scan .entry)) (now (ends .entry)) r (now (scan .exit)) (now (ends .exit)) ⌝ }
 {
     scan::finish(scan, ends)
+}
+
+// Offers a piece of a feed, which waits for its turn.
+#[no_mangle]
+pub extern "C" fn jazhuppe_offer(waiting: u32, last: u32, feed: u32) -> Offered
+    ensures { λ r. ⌜ OfferIs waiting last feed r ⌝ }
+{
+    dispatcher::offer(waiting, last, feed)
+}
+
+// Names the feed that has its turn.
+#[no_mangle]
+pub extern "C" fn jazhuppe_turn(waiting: u32, last: u32) -> Served
+    ensures { λ r. ⌜ TurnIs waiting last r ⌝ }
+{
+    dispatcher::turn(waiting, last)
 }
 
 // Decodes a whole plan.

@@ -21,3 +21,9 @@ pub const CODES_MOST: usize = 8;
 
 // "a set of bytes, sent as 32 bytes"
 pub const SET_BYTES: usize = 32;
+
+// "Eight feeds"
+pub const FEEDS: u32 = 8;
+
+// "At the opening feed 7 counts as last served, and a last-served number above 7 reads as 7."
+pub const TOP_FEED: u32 = FEEDS - 1;

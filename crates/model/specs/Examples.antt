@@ -1,5 +1,5 @@
 -- Sentences and edges of document 01 as closed cases of the definitions, by computing: rules that are refused or accepted, references, held tails, the
--- lister's example, a plan cut inside `&amp;`, moves of windows, what is shown, codes, stored rules rewritten, whole names and LIKE patterns. (M1 to M12 are in `MarkedTable`,
+-- lister's example, a plan cut inside `&amp;`, moves of windows, what is shown, codes, stored rules rewritten, whole names, LIKE patterns and turns. (M1 to M12 are in `MarkedTable`,
 -- rules and patterns as long as may be in the crate `rule_spelling`.) Assumes nothing.
 use mathlib.Core.Path.{_≡_, refl}
 use mathlib.Core.Bool.{Bool, true, false, not, _&&_}
@@ -18,6 +18,7 @@ use Rattle.model.specs.Codes.{setBytes, inSet, smudged, parseWith}
 use Rattle.model.specs.References.{formLimit, utf8, byteTokens, tokensFrom, decode, heldTail, outTokens, letOut}
 use Rattle.model.specs.PlainScan.{Call, feed, finish, Answer, refused, reported, refusalFor, plainScan, reportedEnds}
 use Rattle.model.specs.WindowSearch.{shift, windows, shown}
+use Rattle.model.specs.Turns.{Dispatcher, opened, OfferAnswer, turnsDown, takes, offer, TurnAnswer, nobody, serves, turn}
 use Rattle.model.specs.MarkedTable.{same, isAccepted, isRefused}
 
 -- ---- rules
@@ -521,3 +522,54 @@ patterns : T (patternsHold (
     ∷ []
     ))
 patterns = tt
+
+-- ---- turns
+
+abbrev at : (waiting last : ℕ) → Dispatcher
+at waiting last = record { waiting = waiting; last = last }
+
+taken-offers : (offer opened 0 ≡ takes (at 1 7))
+    × (offer opened 7 ≡ takes (at 128 7))
+    × (offer opened 8 ≡ turnsDown 18 0)  -- "above 7"
+    × (offer opened 4294967295 ≡ turnsDown 18 0)
+    × (offer (at 1 7) 0 ≡ turnsDown 18 0)  -- "already has a piece waiting"
+    × (offer (at 1 200) 3 ≡ takes (at 9 200))
+    × (offer (at 256 7) 0 ≡ takes (at 257 7))
+    × (offer (at 256 7) 8 ≡ turnsDown 18 0)
+taken-offers = (refl, refl, refl, refl, refl, refl, refl, refl)
+
+taken-turns : (turn opened ≡ nobody)
+    × (turn (at 0 200) ≡ nobody)
+    × (turn (at 256 7) ≡ nobody)
+    × (turn (at 255 7) ≡ serves 0 (at 254 0))
+    × (turn (at 255 8) ≡ serves 0 (at 254 0))  -- "above 7 reads as 7"
+    × (turn (at 255 6) ≡ serves 7 (at 127 7))
+    × (turn (at 8 3) ≡ serves 3 (at 0 3))  -- the last served alone waits
+    × (turn (at 9 3) ≡ serves 0 (at 8 0))  -- "going round"
+    × (turn (at 257 0) ≡ serves 0 (at 256 0))
+taken-turns = (refl, refl, refl, refl, refl, refl, refl, refl, refl)
+
+-- An offer, or a turn; and the feeds that the turns name, each call handed the state the last one left.
+pub data Dispatching : Type 0 where
+  offering : (feed : ℕ) → Dispatching
+  turning : Dispatching
+
+abbrev pub afterOffer : Dispatcher → OfferAnswer → Dispatcher
+afterOffer d (turnsDown n p) = d
+afterOffer d (takes e) = e
+
+abbrev pub namedBy : Dispatcher → List Dispatching → List ℕ
+namedBy d [] = []
+namedBy d (offering f ∷ rest) = namedBy (afterOffer d (offer d f)) rest
+namedBy d (turning ∷ rest) = elim (turn d) [ nobody ↦ namedBy d rest | serves f e ↦ f ∷ namedBy e rest ]
+
+-- Feeds 0 and 2 offer again and again, and feed 1 has its turn; an offer while a piece waits adds none.
+round : namedBy opened (offering 2 ∷ offering 1 ∷ offering 0 ∷ offering 1 ∷ turning ∷ offering 0 ∷ turning ∷ turning ∷ offering 2 ∷ turning ∷ turning ∷ turning ∷ [])
+    ≡ 0 ∷ 1 ∷ 2 ∷ 0 ∷ 2 ∷ []
+round = refl
+
+-- Eight turns are needed: where all wait, feed 7 has the eighth.
+eighth : namedBy opened (offering 7 ∷ offering 6 ∷ offering 5 ∷ offering 4 ∷ offering 3 ∷ offering 2 ∷ offering 1 ∷ offering 0
+    ∷ turning ∷ turning ∷ turning ∷ turning ∷ turning ∷ turning ∷ turning ∷ turning ∷ turning ∷ [])
+    ≡ 0 ∷ 1 ∷ 2 ∷ 3 ∷ 4 ∷ 5 ∷ 6 ∷ 7 ∷ []
+eighth = refl

@@ -60,3 +60,7 @@ codesFault = 15
 -- "a rule's first or last element is a gap with a < b"
 abbrev pub outerGap : ℕ
 outerGap = 16
+
+-- "an offer's feed number is above 7 or that feed already has a piece waiting"
+abbrev pub offerFault : ℕ
+offerFault = 18

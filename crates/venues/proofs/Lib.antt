@@ -1,0 +1,6 @@
+-- The theorem, bottom up.
+pub mod NextFeed
+pub mod Served
+pub mod Pieces
+pub mod Apart
+pub mod InTurns

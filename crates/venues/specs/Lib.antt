@@ -1,0 +1,3 @@
+-- What the theorem says.
+pub mod Venues
+pub mod Examples
