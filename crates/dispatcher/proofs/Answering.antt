@@ -1,16 +1,16 @@
 -- What an offer and a turn answer. On plain values. Assumes nothing.
 use mathlib.Core.Path.{_≡_, refl, sym, ap, _∙_}
-use mathlib.Core.Bool.{Bool, true, false}
+use mathlib.Core.Bool.{Bool, true, false, or-true}
 use mathlib.Core.Logic.{_⊎_, inl, inr}
 use Prim.Native.Nat.{ℕ, zero, suc, _+_, _-_, _*_, _/_, _%_, _^_, _≤_, _<_}
 use native.Mathlib.Omega.{arith}
 use native.Mathlib.Nat.{mod-eq-of-lt}
-use lib.Dec.{T}
+use lib.Dec.{T, leb, ltb, leb→le, ltb→lt}
 use lib.Pow.{pow-mono}
 use lib.Count.{trailingZeros, trailing-le}
 use borrow.Author.Tests.{lt-ltb, le-ltb, eq-eqb, ne-eqb}
 use Rattle.model.specs.WindowSearch.{leastFrom}
-use Rattle.model.specs.Turns.{feeds, Dispatcher, lastServed, goingRound, served, wayToNext, turnBy, turn}
+use Rattle.model.specs.Turns.{feeds, topFeed, Dispatcher, lastServed, goingRound, served, wayToNext, turnBy, turn}
 use Rattle.model.proofs.Truth.{T-to, T-true}
 use Rattle.model.proofs.Windows.{least-is}
 use Rattle.shift_and.proofs.Digits.{none-bit}
@@ -28,19 +28,19 @@ flag-is {f} h = let l = power-small f h in let m : 2 ^ f % 2 ^ 32 ≡ 2 ^ f = mo
 -- ---- an offer
 
 module _ (waiting last feed : ℕ) where
-  pub offer-above : 7 < feed → (r : Offered) → r ≡ asHanded waiting last → OfferIs waiting last feed r
-  offer-above h r e = rw (e, lt-ltb 7 feed h)
+  -- (The number that it is compared with may be larger, and the remainder any but 0: what a wrong test lets in then fails where it is taken.)
+  pub offer-above : (limit : ℕ) → limit < feed → T (leb topFeed limit) → (r : Offered) → r ≡ asHanded waiting last → OfferIs waiting last feed r
+  offer-above limit h t r e = let l = leb→le topFeed limit t in rw (e, lt-ltb 7 feed (omega arith))
 
-  module _ (few : feed ≤ 7) where
-    pub offer-again : waiting / 2 ^ feed % 2 ≡ 1 → (r : Offered) → r ≡ asHanded waiting last → OfferIs waiting last feed r
-    offer-again s r e = rw (e, le-ltb 7 feed few, eq-eqb (waiting / 2 ^ feed % 2) 1 s)
+  pub offer-again : (k : ℕ) → waiting / 2 ^ feed % 2 ≡ k → T (ltb 0 k) → (r : Offered) → r ≡ asHanded waiting last → OfferIs waiting last feed r
+  offer-again k s t r e = let l = ltb→lt 0 k t in rw (e, eq-eqb (waiting / 2 ^ feed % 2) 1 (omega arith), or-true (ltb 7 feed))
 
-    module _ (clear : waiting / 2 ^ feed % 2 ≡ 1 → ⊥) (bit : ℕ) (is : bit ≡ 2 ^ feed) where
-      pub offer-fits : waiting < 2 ^ 32 → waiting + bit < 2 ^ 32
-      offer-fits small = rw is (set-fits waiting feed (ne-eqb (waiting / 2 ^ feed % 2) 1 clear) 32 small (power-small feed few))
+  module _ (few : feed ≤ 7) (clear : waiting / 2 ^ feed % 2 ≡ 1 → ⊥) (bit : ℕ) (is : bit ≡ 2 ^ feed) where
+    pub offer-fits : waiting < 2 ^ 32 → waiting + bit < 2 ^ 32
+    offer-fits small = rw is (set-fits waiting feed (ne-eqb (waiting / 2 ^ feed % 2) 1 clear) 32 small (power-small feed few))
 
-      pub offer-taken : OfferIs waiting last feed (record { number = 0; place = 0; waiting = waiting + bit; last = last })
-      offer-taken = rw (is, le-ltb 7 feed few, ne-eqb (waiting / 2 ^ feed % 2) 1 clear)
+    pub offer-taken : OfferIs waiting last feed (record { number = 0; place = 0; waiting = waiting + bit; last = last })
+    offer-taken = rw (is, le-ltb 7 feed few, ne-eqb (waiting / 2 ^ feed % 2) 1 clear)
 
 -- ---- the one last served
 

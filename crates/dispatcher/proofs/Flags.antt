@@ -1,6 +1,6 @@
 -- Bits of a number of waiting feeds: one that is set where it was clear, one that is cleared where it was set. Assumes nothing.
 use mathlib.Core.Path.{_≡_, refl, sym, ap, ap₂, _∙_}
-use mathlib.Core.Bool.{Bool, true, false, not, _&&_, _||_}
+use mathlib.Core.Bool.{Bool, true, false, not, _&&_, _||_, and-true, or-comm}
 use Prim.Native.Nat.{ℕ, _+_, _-_, _/_, _%_, _^_, _≤_, _<_}
 use native.Mathlib.Omega.{arith}
 use native.Mathlib.Nat.{le-trans, le-of-eq}
@@ -20,10 +20,6 @@ flagAt n f = eqb (n / 2 ^ f % 2) 1
 pub flag-bit : (n f : ℕ) → flagAt n f ≡ bit n f
 unfolding topBit
 flag-bit n f = top-bit f n
-
-and-true : (x : Bool) → (x && true) ≡ x
-and-true true = refl
-and-true false = refl
 
 -- No bit but f is set in both, and f where it is in n.
 and-power : (b : Bool) (n f : ℕ) → bit n f ≡ b → (j : ℕ) → (bit n j && bit (2 ^ f) j) ≡ (eqb f j && b)
@@ -51,13 +47,7 @@ module _ (n f : ℕ) (clear : flagAt n f ≡ false) where
   pub set-flag : (g : ℕ) → flagAt (n + 2 ^ f) g ≡ (eqb f g || flagAt n g)
   set-flag g =
       flag-bit (n + 2 ^ f) g ∙ ap (λ (k : ℕ). bit k g) (sym or-is) ∙ or-bit n (2 ^ f) g ∙ ap₂ (λ (a b : Bool). a || b) (sym (flag-bit n g)) (power-bit f g)
-      ∙ or-swap (flagAt n g) (eqb f g)
-    where
-      or-swap : (a b : Bool) → (a || b) ≡ (b || a)
-      or-swap true true = refl
-      or-swap true false = refl
-      or-swap false true = refl
-      or-swap false false = refl
+      ∙ or-comm (flagAt n g) (eqb f g)
 
 -- ---- cleared where it was set
 

@@ -18,7 +18,7 @@ use Rattle.dispatcher.specs.Dispatching.{handed, OfferIs, TurnIs}
 
 -- ---- a host
 
--- What it keeps: the dispatcher's state; for each feed the piece offered last, "the bytes kept by the host", and a scan value, "each with its own scan".
+-- What it keeps: the dispatcher's state; for each feed the piece whose offer was last accepted, "the bytes kept by the host", and a scan value, "each with its own scan".
 pub record Host : Type 0 where
   pub waiting : ℕ
   pub last : ℕ
