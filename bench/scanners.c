@@ -20,6 +20,14 @@ static void *open_scan(const rule *r)
     return opened;
 }
 
+/* Adds what a call reported: the ends alone, as nobody else here has raw counts. */
+static void add_ends(tally *found, uint32_t count)
+{
+    for (uint32_t i = 0; found->summing && i < count; i++)
+        ends[i] = ends[JAZHUPPE_PAIR * i];
+    add(found, ends, count);
+}
+
 /* The opened value is kept for the next reading, so each one works on a copy. */
 static void scan(void *opened, bytes text, size_t piece, tally *found)
 {
@@ -29,11 +37,11 @@ static void scan(void *opened, bytes text, size_t piece, tally *found)
         size_t k = text.length - at < piece ? text.length - at : piece;
         jazhuppe_answer a = jazhuppe_feed(value, JAZHUPPE_SCAN_WORDS, text.at + at, k, ends, JAZHUPPE_FEED_LIST(k));
         accepted(a.number, "feed");
-        add(found, ends, a.count);
+        add_ends(found, a.count);
     }
     jazhuppe_answer a = jazhuppe_finish(value, JAZHUPPE_SCAN_WORDS, ends, JAZHUPPE_FINISH_LIST);
     accepted(a.number, "finish");
-    add(found, ends, a.count);
+    add_ends(found, a.count);
 }
 
 const scanner jazhuppe_scanner = {"Jazhuppe", open_scan, scan, free};

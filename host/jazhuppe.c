@@ -24,7 +24,7 @@ enum { PIECE = 4096 };
 static const uint64_t mebibyte = 1024 * 1024;
 
 /* What is printed: of each occurrence, or the rule itself, rewritten, or what a LIKE pattern comes to. */
-typedef enum { ENDS, STARTS, TEXTS, REWRITTEN, LIKE } output;
+typedef enum { ENDS, RAW_ENDS, STARTS, TEXTS, REWRITTEN, LIKE } output;
 
 /* A rule, and the codes that a plan is read with. */
 typedef struct {
@@ -43,7 +43,7 @@ typedef struct {
     uint64_t size; /* 0 where it is not known */
 } plan;
 
-static const char usage_lines[] = "usage: jazhuppe [-i] [-c CODE=SET]... [-e | -s | -t] RULE [FILE...]\n"
+static const char usage_lines[] = "usage: jazhuppe [-i] [-c CODE=SET]... [-e | -r | -s | -t] RULE [FILE...]\n"
                                   "       jazhuppe [-i] --rewrite RULE\n"
                                   "       jazhuppe --like PATTERN [NAME...]\n";
 
@@ -53,6 +53,8 @@ static const char help_text[] =
     "input.\n"
     "\n"
     "  -e         print where occurrences end, reading on with constant memory (default)\n"
+    "  -r         print where they end in FILE itself: head -c PLACE FILE ends with the\n"
+    "             byte, or the whole reference, that ends the occurrence\n"
     "  -s         print where occurrences start\n"
     "  -t         print FILE:START:TEXT, from each start to the earliest end there\n"
     "  -i         small and capital letters A to Z are alike in RULE\n"
@@ -69,8 +71,9 @@ static const char help_text[] =
     "  --help     print this and exit\n"
     "  --version  print the version and exit\n"
     "\n"
-    "Places count decoded bytes: a start from 0, an end up to and including the last\n"
-    "byte. Each is printed on a line of its own, after FILE: where there are several.\n"
+    "Places count decoded bytes, with -r those of FILE: a start from 0, an end up to and\n"
+    "including the last byte. Each is printed on a line of its own, after FILE: where\n"
+    "there are several.\n"
     "In TEXT and NAME a control byte or \\ is printed as \\n, \\t, \\r, \\\\ or \\xHH.\n"
     "\n"
     "In a rule . is any byte, [a-z] [^a-z] a class, {a,b} a gap of a to b bytes; ? + *\n"
@@ -288,11 +291,12 @@ static void end_line(void)
         write_error = errno;
 }
 
-static void print_places(const plan *p, const uint32_t *places, uint32_t count)
+/* So many places, each so many numbers after the one before it. */
+static void print_places(const plan *p, const uint32_t *places, uint32_t count, size_t apart)
 {
-    for (uint32_t i = 0; i < count && write_error == 0; i++) {
+    for (size_t i = 0; i < count && write_error == 0; i++) {
         begin_line(p);
-        printf("%" PRIu32, places[i]);
+        printf("%" PRIu32, places[i * apart]);
         end_line();
     }
 }
@@ -348,33 +352,33 @@ static int both(int a, int b)
     return a == FOUND || b == FOUND ? FOUND : NONE;
 }
 
-/* Prints a scan call's ends: the exit status that they come to. */
-static int take_ends(const plan *p, jazhuppe_answer a, const uint32_t *ends)
+/* Prints a scan call's ends, or their raw counts: the exit status that they come to. */
+static int take_ends(const plan *p, output printed, jazhuppe_answer a, const uint32_t *ends)
 {
     if (a.number != 0) {
         refused_plan(p, a.number);
         return TROUBLE;
     }
-    print_places(p, ends, a.count);
+    print_places(p, ends + (printed == RAW_ENDS), a.count, JAZHUPPE_PAIR);
     return a.count > 0 ? FOUND : NONE;
 }
 
-static int feed_piece(const plan *p, uint64_t *scan, const uint8_t *piece, size_t length)
+static int feed_piece(const plan *p, output printed, uint64_t *scan, const uint8_t *piece, size_t length)
 {
     uint32_t ends[JAZHUPPE_FEED_LIST(PIECE)];
     size_t list = JAZHUPPE_FEED_LIST(length);
 
-    return take_ends(p, jazhuppe_feed(scan, JAZHUPPE_SCAN_WORDS, piece, length, ends, list), ends);
+    return take_ends(p, printed, jazhuppe_feed(scan, JAZHUPPE_SCAN_WORDS, piece, length, ends, list), ends);
 }
 
-static int finish_plan(const plan *p, uint64_t *scan)
+static int finish_plan(const plan *p, output printed, uint64_t *scan)
 {
     uint32_t ends[JAZHUPPE_FINISH_LIST];
 
-    return take_ends(p, jazhuppe_finish(scan, JAZHUPPE_SCAN_WORDS, ends, JAZHUPPE_FINISH_LIST), ends);
+    return take_ends(p, printed, jazhuppe_finish(scan, JAZHUPPE_SCAN_WORDS, ends, JAZHUPPE_FINISH_LIST), ends);
 }
 
-static int scan_plan(const plan *p, const rule *r)
+static int scan_plan(const plan *p, const rule *r, output printed)
 {
     uint64_t scan[JAZHUPPE_SCAN_WORDS], taken = 0;
     uint8_t piece[PIECE];
@@ -383,13 +387,13 @@ static int scan_plan(const plan *p, const rule *r)
 
     open_scan(r, scan);
     while ((n = read_some(p, piece, PIECE)) > 0) {
-        status = both(status, feed_piece(p, scan, piece, (size_t)n));
+        status = both(status, feed_piece(p, printed, scan, piece, (size_t)n));
         if (status == TROUBLE || write_error != 0)
             return TROUBLE;
         taken += (uint64_t)n;
         show_progress(p, "scanned", taken);
     }
-    return n < 0 ? TROUBLE : both(status, finish_plan(p, scan));
+    return n < 0 ? TROUBLE : both(status, finish_plan(p, printed, scan));
 }
 
 /* ---- the window search */
@@ -422,7 +426,7 @@ static int search_text(const plan *p, const rule *r, output printed, const uint8
     if (a.number != 0)
         refused_plan(p, a.number);
     else if (printed == STARTS)
-        print_places(p, starts, a.count);
+        print_places(p, starts, a.count, 1);
     else
         print_texts(p, r, text, length, starts, a.count);
     release_list(starts, length);
@@ -522,7 +526,7 @@ static int find_in(const char *name, bool named, const rule *r, output printed)
         return failed(&p);
     p.size = known_size(p.descriptor);
     begin_progress();
-    status = printed == ENDS ? scan_plan(&p, r) : search_plan(&p, r, printed);
+    status = printed == ENDS || printed == RAW_ENDS ? scan_plan(&p, r, printed) : search_plan(&p, r, printed);
     hide_progress();
     if (!standard)
         close(p.descriptor);
@@ -658,6 +662,7 @@ static bool take_letters(char **argv, int *at, rule *r, output *printed)
         switch (*letter) {
         case 'i': r->fold = 1; break;
         case 'e': *printed = ENDS; break;
+        case 'r': *printed = RAW_ENDS; break;
         case 's': *printed = STARTS; break;
         case 't': *printed = TEXTS; break;
         case 'c': return take_code(letter[1] != '\0' ? letter + 1 : argv[++*at], r);

@@ -16,3 +16,5 @@ say "\$ $program -t '$rule' host/sample.xml       # each seat, with the place wh
 "$program" -t "$rule" host/sample.xml || exit
 say "\$ $program '$rule' host/sample.xml       # where they end, reading the plan as a stream"
 "$program" "$rule" host/sample.xml
+say "\$ $program -r '$rule' host/sample.xml       # and where in the file itself, references and all"
+"$program" -r "$rule" host/sample.xml

@@ -88,13 +88,13 @@ static int refused(feed *f, uint32_t number)
     return close_feed(f, TROUBLE);
 }
 
-/* Prints a scan call's ends: the exit status that they come to. */
+/* Prints a scan call's ends, without their raw counts: the exit status that they come to. */
 static int take_ends(feed *f, jazhuppe_answer a, const uint32_t *ends)
 {
     if (a.number != 0)
         return refused(f, a.number);
     for (uint32_t i = 0; i < a.count && write_error == 0; i++) {
-        printf("%s:%" PRIu32 "\n", f->name, ends[i]);
+        printf("%s:%" PRIu32 "\n", f->name, ends[JAZHUPPE_PAIR * i]);
         if (ferror(stdout))
             write_error = errno;
     }

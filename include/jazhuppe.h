@@ -3,7 +3,7 @@
  * Two searches give the same occurrences:
  *
  *   the forward scan   jazhuppe_open, then jazhuppe_feed for each piece of the raw plan, then jazhuppe_finish:
- *                      the ends of occurrences, with the same memory for a plan of any length;
+ *                      the ends of occurrences, decoded and in the raw plan, with the same memory for a plan of any length;
  *   the window search  jazhuppe_decode the raw plan, then jazhuppe_search its decoded text: the starts.
  *
  * Beside them jazhuppe_covers says whether a rule covers a seat name whole, and jazhuppe_turn whose piece is next where
@@ -20,7 +20,10 @@
  * TEXT. Places count decoded bytes: a start is counted from 0, an end is the count of bytes up to and including the
  * occurrence's last. A reference (&amp; &lt; &gt; &apos; &quot; &#38; &#x26; of at most 32 bytes, leading zeros included) is
  * decoded to its UTF-8 bytes, once; one whose number is no Char of XML 1.0, as &#0; and &#xD800;, to U+FFFD (EF BF BD).
- * Anything else stays as it is.
+ * Anything else stays as it is. With each end goes its raw count: the bytes of the raw plan, from its first one over all the
+ * pieces, up to and including the byte, or the whole reference, that gave the occurrence's last byte. All bytes of one
+ * reference share one raw count; a byte that stays as it is has its own, also where it was held back. So raw counts never
+ * fall from end to end. Plans that decode alike have the same ends; their raw counts may differ.
  *
  * CODES. A scanned plan holds bytes for characters that could not be read. An opening and a search take up to 8 such codes:
  * `codes` has a byte for each, `sets` 32 bytes for each, in the same order, where bit x % 8, the lowest being 0, of byte
@@ -37,9 +40,9 @@
  * left, an accepted offer's piece is served within 8 turns, and never before an earlier one of its feed. Each feed's ends
  * are those that it gets alone from the same feeds and finishes, in the same order, with the same list lengths.
  *
- * LENDER'S DUTIES. A call is lent slices, each a pointer and a length in entries:
+ * LENDER'S DUTIES. A call is lent slices, each a pointer and a length in the bytes or numbers that it points to:
  *
- *   - each slice is memory of the length named, aligned for its entries;
+ *   - each slice is memory of the length named, aligned for what it holds;
  *   - a slice that the call writes (pointer not to const) lies apart from every other slice of that call;
  *   - nobody else touches the slices until the call returns;
  *   - a pointer may be NULL where its length is 0.
@@ -50,8 +53,8 @@
  *
  * REFUSALS. A finished result has number 0 and place 0. A refusal has its number, its place (0 where none is given) and
  * zeros beside them (an offer's has the dispatcher's numbers there, as they were handed over), and leaves lists, buffers and
- * the scan value as they were. A finished call writes as many entries as it reports; past them a list or buffer is as it
- * was.
+ * the scan value as they were. A finished call writes as many entries as it reports, an entry being a pair of numbers in a
+ * feed's or finish's list, a number in a search's, a byte in a buffer; past them a list or buffer is as it was.
  */
 #ifndef JAZHUPPE_H
 #define JAZHUPPE_H
@@ -103,9 +106,12 @@ extern "C" {
 /* What counts as last served where a dispatcher opens; nobody waits then. */
 #define JAZHUPPE_LAST_AT_OPENING 7
 
-/* The entries that the list of a feed with a piece of so many bytes needs, and that of a finish. */
-#define JAZHUPPE_FEED_LIST(piece_len) ((piece_len) + JAZHUPPE_HELD_MOST)
-#define JAZHUPPE_FINISH_LIST JAZHUPPE_HELD_MOST
+/* The numbers of an entry of a feed's or finish's list: entry i is the end, at 2 * i, and its raw count, at 2 * i + 1. */
+#define JAZHUPPE_PAIR 2
+
+/* The numbers, two for each pair, that the list of a feed with a piece of so many bytes needs, and that of a finish. */
+#define JAZHUPPE_FEED_LIST(piece_len) (JAZHUPPE_PAIR * ((size_t)(piece_len) + JAZHUPPE_HELD_MOST))
+#define JAZHUPPE_FINISH_LIST (JAZHUPPE_PAIR * JAZHUPPE_HELD_MOST)
 
 /* The bytes that the buffer of a rewriting needs, however short the rule. */
 #define JAZHUPPE_REWRITE_BUFFER JAZHUPPE_RULE_MOST
@@ -125,7 +131,7 @@ typedef struct {
 typedef struct {
     uint32_t number;   /* 0, or the refusal */
     uint32_t place;    /* where in the rule */
-    uint32_t count;    /* entries written */
+    uint32_t count;    /* entries written: pairs by a feed or finish, starts by a search, bytes by a decoding */
     uint32_t windows;  /* windows tried by a search; 0 in every other answer */
 } jazhuppe_answer;
 
@@ -187,14 +193,16 @@ jazhuppe_prepared jazhuppe_open(const uint8_t *rule, size_t rule_len, uint32_t f
                                 size_t codes_len, const uint8_t *sets, size_t sets_len, uint64_t *scan, size_t scan_len);
 
 /* Feeds the next piece of the raw plan, of any length and cut anywhere: writes the ends of the occurrences that it
- * completes, each once, rising, and moves the scan value on. A tail that could still grow into a reference is held
- * back for the next call. The list needs JAZHUPPE_FEED_LIST(piece_len) entries.
+ * completes, each once, rising, each followed by its raw count, and moves the scan value on; count counts these pairs. A
+ * tail that could still grow into a reference is held back for the next call. The list needs
+ * JAZHUPPE_FEED_LIST(piece_len) numbers, 2 * (piece_len + 31).
  * Refusals 11, 12, 10 (all the pieces together), 9. */
 jazhuppe_answer jazhuppe_feed(uint64_t *scan, size_t scan_len, const uint8_t *piece, size_t piece_len, uint32_t *ends,
                               size_t ends_len);
 
-/* Finishes the scan: what is held back is let through as it came, and the ends in it are written. The list needs
- * JAZHUPPE_FINISH_LIST entries. A finished scan takes no more calls; the value may be opened again.
+/* Finishes the scan: what is held back is let through as it came, byte by byte, and the ends in it are written in pairs, as a
+ * feed writes them. The list needs JAZHUPPE_FINISH_LIST numbers, 62. A finished scan takes no more calls; the value may be
+ * opened again.
  * Refusals 11, 12, 9. */
 jazhuppe_answer jazhuppe_finish(uint64_t *scan, size_t scan_len, uint32_t *ends, size_t ends_len);
 
@@ -202,7 +210,7 @@ jazhuppe_answer jazhuppe_finish(uint64_t *scan, size_t scan_len, uint32_t *ends,
 jazhuppe_answer jazhuppe_decode(const uint8_t *raw, size_t raw_len, uint8_t *out, size_t out_len);
 
 /* Searches a whole decoded text (it decodes nothing): writes the starts of occurrences, each once, rising. The list
- * needs text_len entries. Refusals 1 to 8, 16, 15, 10, 9. */
+ * needs text_len numbers, one for each start. Refusals 1 to 8, 16, 15, 10, 9. */
 jazhuppe_answer jazhuppe_search(const uint8_t *rule, size_t rule_len, uint32_t fold, const uint8_t *codes,
                                 size_t codes_len, const uint8_t *sets, size_t sets_len, const uint8_t *text,
                                 size_t text_len, uint32_t *starts, size_t starts_len);
@@ -237,7 +245,7 @@ jazhuppe_served jazhuppe_turn(uint32_t waiting, uint32_t last);
  *   1032          how many positions, 1 to 255
  *   1033 to 1036  the state: bit i of the w-th says that some tail of the text so far fills the first 64 w + i positions
  *   1037          1 if it is finished, else 0
- *   1038          the bytes taken, up to 4,294,967,295
+ *   1038          the bytes taken, up to 4,294,967,295; raw counts go on from these, less those held back
  *   1039          the bytes decoded from them
  *   1040          how many bytes are held back, at most 31
  *   1041 to 1044  the bytes held back: byte j is byte j % 8, the lowest being 0, of number 1041 + j / 8; 0 past their count

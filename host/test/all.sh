@@ -50,7 +50,7 @@ try "differential" build/test/differential
 try "written cases" build/test/differential - host/test/cases.txt
 try "LIKE as SQLite has it" sh host/test/sqlite.sh
 try "lister" sh host/test/lister.sh
-for option in -e -s -t; do
+for option in -e -r -s -t; do
     try "program, watched, $option" watched "${PROGRAM:-build/jazhuppe}" "$option" 'Row A&B [0-9]+' host/sample.xml
     try "program, watched, $option -c" watched "${PROGRAM:-build/jazhuppe}" "$option" -c '1=[02-9]' 'Row A&B [2-9]+' host/sample.xml
 done

@@ -2,6 +2,7 @@
 # The command line program: what it prints, and its exit status. PROGRAM is its path.
 program=$(realpath "${PROGRAM:-build/jazhuppe}") || exit 2
 header=$(realpath "$(dirname "$0")/../../include/jazhuppe.h") || exit 2
+sample=$(realpath "$(dirname "$0")/../sample.xml") || exit 2
 work=$(mktemp -d) || exit 2
 trap 'rm -rf "$work"' EXIT
 cd "$work" || exit 2
@@ -77,6 +78,40 @@ expect "what is held back at the plan's end" 0 '4\n' '' 'A&am' unfinished
 expect "control bytes in a text" 0 'control:0:x\\ta\\\\b\\n\\x01y\n' '' -t 'x.+y' control
 expect "a rule that begins with -" 1 '' '' -- '-x' three
 
+# Ends in the file itself.
+expect "raw ends, -r" 0 '10\n25\n40\n' '' -r 'Row A&B [0-9][0-9]' three
+expect "raw ends, of each end" 0 '9\n10\n24\n25\n39\n40\n' '' -r 'Row A&B [0-9]+' three
+expect "raw ends, -i and -r joined" 0 '10\n25\n40\n' '' -ir 'rOW a&b [0-9][0-9]' three
+expect "raw ends, -r and -i joined" 0 '3\n14\n29\n' '' -ri 'rOW' three
+expect "-r after -e, the last counts" 0 '10\n25\n40\n' '' -e -r 'Row A&B [0-9][0-9]' three
+expect "-e after -r, the last counts" 0 '10\n21\n32\n' '' -r -e 'Row A&B [0-9][0-9]' three
+expect "-r among all, the last counts" 0 '25\n' '' --like -s --rewrite -ter 'Row A&B 12' three
+expect "-s after -r, the last counts" 0 '11\n' '' -rs 'Row A&B 12' three
+expect "--rewrite after -r, the last counts" 0 '.Row\n' '' -r --rewrite '{1,2}Row'
+expect "raw ends, several files" 0 'three:25\nthree:40\nthree:25\nthree:40\n' '' -r 'A&B 1[23]' three none three
+expect "raw ends, standard input as -, among files" 0 'three:25\n' '' -r 'Row A&B 12' three -
+expect "raw ends, nothing found" 1 '' '' -r 'Row' none
+expect "raw ends, one reference's for each of its bytes" 0 '4\n5\n18\n18\n' '' -r "$(printf '[\200-\377]')" utf8
+expect "raw ends, impossible characters" 0 '9\n25\n34\n' '' -r 'Row A.' impossible
+expect "raw ends, what is held back at the plan's end" 0 '2\n3\n4\n' '' -r '[&am]' unfinished
+expect "raw ends, with codes" 0 '10\n25\n45\n' '' -r -c '?=[0-9]' -c '~=&' 'Row A&B [0-9][0-9]' smudged
+
+# RULE, and for each end what the last line of the sample is, up to its place.
+lines_up_to() {
+    rule=$1
+    shift
+    for place in $("$program" -r "$rule" "$sample"); do
+        [ $# -gt 0 ] && [ "$(head -c "$place" "$sample" | tail -n 1)" = "  <seat id=$1" ] || return 1
+        shift
+    done
+    [ $# -eq 0 ]
+}
+holds "head -c ends with the seat, as it is spelt" lines_up_to 'Row A&B [0-9][0-9]' \
+    '"1">Row A&B 11' '"2">Row A&amp;B 12' '"3">Row A&#38;B 13' '"4">Row A&#0000000038;B 14'
+holds "head -c ends with the whole reference" lines_up_to 'Row A&' \
+    '"1">Row A&' '"2">Row A&amp;' '"3">Row A&#38;' '"4">Row A&#0000000038;' '"5">Row A&amp;'
+holds "head -c ends with one byte of what a reference gave" lines_up_to 'Row A&a' '"5">Row A&amp;a'
+
 # Codes.
 expect "codes, ends" 0 '10\n21\n32\n' '' -c '?=[0-9]' -c '~=&' 'Row A&B [0-9][0-9]' smudged
 expect "codes, starts" 0 '0\n11\n22\n' '' -s -c '?=[0-9]' -c '~=[&8]' 'Row A&B [0-9]+' smudged
@@ -141,7 +176,7 @@ holds "what is imported is taken" imported '&B 1_' '10
 32'
 
 # Trouble.
-usage='usage: jazhuppe [-i] [-c CODE=SET]... [-e | -s | -t] RULE [FILE...]\n       jazhuppe [-i] --rewrite RULE
+usage='usage: jazhuppe [-i] [-c CODE=SET]... [-e | -r | -s | -t] RULE [FILE...]\n       jazhuppe [-i] --rewrite RULE
        jazhuppe --like PATTERN [NAME...]\n'
 expect "a plan that is not there" 2 'three:3\nthree:14\nthree:25\n' 'jazhuppe: gone: No such file or directory\n' \
     'Row' gone three
@@ -237,7 +272,7 @@ expect "--like refused by 2" 2 '' 'jazhuppe: refused 2 at 1023 of the imported r
 version=$(sed -n 's/^#define JAZHUPPE_VERSION "\(.*\)"/\1/p' "$header")
 expect "--version" 0 "jazhuppe $version\n" '' --version
 "$program" --help > out
-holds "--help" [ "$? $(head -n 1 out)" = "0 usage: jazhuppe [-i] [-c CODE=SET]... [-e | -s | -t] RULE [FILE...]" ]
+holds "--help" [ "$? $(head -n 1 out)" = "0 usage: jazhuppe [-i] [-c CODE=SET]... [-e | -r | -s | -t] RULE [FILE...]" ]
 
 # A reference that a piece of 4,096 bytes cuts, at each place in it.
 cut_everywhere() {
@@ -246,6 +281,7 @@ cut_everywhere() {
         { head -c "$before" /dev/zero | tr '\0' '.'; printf 'A%sB' "$1"; } > severed
         [ "$("$program" 'A&B' severed)" = "$((before + 3))" ] || return 1
         [ "$("$program" -s 'A&B' severed)" = "$before" ] || return 1
+        [ "$("$program" -r 'A&B' severed)" = "$((before + 2 + ${#1}))" ] || return 1
         before=$((before + 1))
     done
 }
@@ -273,9 +309,10 @@ long_stream() {
     { yes 'Row A&amp;B 12' | head -c 300000000; printf 'Seat 7'; }
 }
 bounded() {
-    long_stream | (ulimit -v 16384 && exec "$program" 'Seat 7')
+    long_stream | (ulimit -v 16384 && exec "$program" "$1" 'Seat 7')
 }
-holds "300 MB as a stream, in 16 MiB" [ "$(bounded)" = 220000006 ]
+holds "300 MB as a stream, in 16 MiB" [ "$(bounded -e)" = 220000006 ]
+holds "300 MB as a stream, in 16 MiB, raw ends" [ "$(bounded -r)" = 300000006 ]
 if [ -x /usr/bin/time ]; then
     long_stream | /usr/bin/time -f '%M' -o peak "$program" 'Seat 7' > out
     holds "300 MB as a stream: peak memory $(cat peak) KiB" [ "$(cat peak)" -lt 4096 ]

@@ -1,4 +1,4 @@
-/* differential.c: cases through the header, each answer and every lent entry held against the second implementation.
+/* differential.c: cases through the header, each answer and every lent number held against the second implementation.
  * `differential [SEED [CASES]]` draws them; `differential - FILE` reads them from lines, each with what it is first:
  *   ? rule, tab, plan          a case of document 01 or an edge, with the plan cut in many ways
  *   ! rule, tab, plan          the same with the fold flag set
@@ -22,12 +22,15 @@
 #include "second.h"
 #include "testing.h"
 
-enum { WORDS = JAZHUPPE_SCAN_WORDS, REFUSALS = JAZHUPPE_OUTER_GAP, PATTERN_MOST = 2100 };
+enum { WORDS = JAZHUPPE_SCAN_WORDS, REFUSALS = JAZHUPPE_OUTER_GAP, PATTERN_MOST = 2100, FORM_MOST = 32,
+       SPELT_MOST = PLAN_MOST * FORM_MOST };
 
-/* Beside what drawn.h draws: the plan decoded, a LIKE pattern, and a name for it, or before that for the rule. */
+/* Beside what drawn.h draws: the plan decoded, with the raw count of each byte, its text spelt otherwise, a LIKE pattern, and
+ * a name for it, or before that for the rule. */
 static struct {
-    uint8_t text[PLAN_MOST], pattern[PATTERN_MOST], name[PLAN_MOST];
-    size_t text_len, pattern_len, name_len;
+    uint8_t text[PLAN_MOST], spelt[SPELT_MOST], pattern[PATTERN_MOST], name[PLAN_MOST];
+    uint32_t raws[PLAN_MOST], spelt_raws[PLAN_MOST];
+    size_t text_len, spelt_len, pattern_len, name_len;
 } beside;
 
 static unsigned long long seed = 1;
@@ -43,7 +46,8 @@ enum { PREPARE, REWRITE, OPEN, FEED, FINISH, DECODE, SEARCH, SHOW, COVERS, IMPOR
 static const char *const call_names[CALLS] = {"prepare", "rewrite", "open", "feed", "finish",
                                               "decode", "search", "show", "covers", "import_like"};
 static unsigned long counts[CALLS][REFUSALS + 1], ends_seen, starts_seen, shown_seen, windows_seen, held_seen, decoded_seen,
-    smudged_seen, smudges_seen, rewritten_seen, kept_ends_seen, kept_starts_seen, covered_seen, accepted_seen, declined_seen;
+    smudged_seen, smudges_seen, rewritten_seen, kept_ends_seen, kept_starts_seen, covered_seen, accepted_seen, declined_seen,
+    apart_seen, shared_seen, spelt_seen;
 
 static char asked[16384];
 static size_t asked_len;
@@ -87,6 +91,7 @@ static void different(const char *what)
     print_bytes("sets", now.sets, now.sets_len);
     print_bytes("plan", now.plan, now.plan_len);
     print_bytes("text", beside.text, beside.text_len);
+    print_bytes("spelt", beside.spelt, beside.spelt_len);
     print_bytes("pattern", beside.pattern, beside.pattern_len);
     print_bytes("name", beside.name, beside.name_len);
     printf("calls, in order:\n%s", asked);
@@ -146,13 +151,13 @@ static void hold_answer(int call, jazhuppe_answer given, jazhuppe_answer expecte
     different(call_names[call]);
 }
 
-/* The list that was lent last: the expected entries, and past them what stood there. */
+/* The list that was lent last: so many numbers that are expected, and past them what stood there. */
 static void hold_list(int call, const uint32_t *expected, size_t count)
 {
     const uint32_t *given = (const uint32_t *)(const void *)list_room.slice;
 
     if (!untouched_past(&list_room, count * sizeof *expected))
-        different("entries past those reported, or around the list");
+        different("numbers past those reported, or around the list");
     if (memcmp(given, expected, count * sizeof *expected) == 0)
         return;
     print_list("given", given, count);
@@ -306,11 +311,15 @@ static bool scanning;
 static second_scan plain;
 static uint64_t *scan;
 
+/* What the calls on it have reported, pair after pair. */
+static uint32_t reported[JAZHUPPE_PAIR * SECOND_PLAN_MOST];
+static size_t reported_count;
+
 /* What the scan value must be, told from the bytes taken: every word of it. */
 static void expected_value(uint64_t *value)
 {
     uint8_t text[SECOND_PLAN_MOST];
-    size_t length = second_text(&plain, text), held = plain.finished ? 0 : second_held(plain.taken, plain.length);
+    size_t length = second_text(&plain, text, NULL), held = plain.finished ? 0 : second_held(plain.taken, plain.length);
     bool filled[JAZHUPPE_POSITIONS_MOST + 1];
 
     memset(value, 0, WORDS * sizeof *value);
@@ -368,6 +377,7 @@ static void try_open(void)
                   expected);
     hold_lent();
     scanning = expected.number == 0;
+    reported_count = 0;
     if (scanning)
         hold_value();
     else if (!untouched(&scan_room))
@@ -397,19 +407,22 @@ static void try_odd_call(size_t length, size_t list)
 /* Whether it was accepted. */
 static bool try_scan_call(bool finish, const uint8_t *bytes, size_t length)
 {
-    static uint32_t expected_ends[SECOND_PLAN_MOST];
+    static uint32_t expected_pairs[JAZHUPPE_PAIR * SECOND_PLAN_MOST];
     size_t list = list_length(finish ? JAZHUPPE_FINISH_LIST : JAZHUPPE_FEED_LIST(length));
     uint32_t *ends = lend(&list_room, list * sizeof *ends);
     const uint8_t *piece = lend_bytes(&text_room, bytes, length);
-    jazhuppe_answer expected = finish ? second_finish(&plain, expected_ends, list)
-                                      : second_feed(&plain, bytes, length, expected_ends, list);
+    jazhuppe_answer expected = finish ? second_finish(&plain, expected_pairs, list)
+                                      : second_feed(&plain, bytes, length, expected_pairs, list);
+    size_t numbers = (size_t)JAZHUPPE_PAIR * expected.count;
 
     note("%s of %zu with a list of %zu\n", finish ? "finish" : "feed", length, list);
     hold_answer(finish ? FINISH : FEED,
                 finish ? jazhuppe_finish(scan, WORDS, ends, list)
                        : jazhuppe_feed(scan, WORDS, piece, length, ends, list),
                 expected);
-    hold_list(finish ? FINISH : FEED, expected_ends, expected.count);
+    hold_list(finish ? FINISH : FEED, expected_pairs, numbers);
+    memcpy(reported + JAZHUPPE_PAIR * reported_count, ends, numbers * sizeof *ends);
+    reported_count += expected.count;
     hold_lent();
     if (expected.number != 0 && !untouched(&scan_room))
         different("a refused call's scan value");
@@ -418,6 +431,150 @@ static bool try_scan_call(bool finish, const uint8_t *bytes, size_t length)
     held_seen += expected.number == 0 && scan[HELD] > 0;
     ends_seen += expected.count;
     return expected.number == 0;
+}
+
+/* ---- raw counts */
+
+/* The length of some raw bytes, decoded by the finder. */
+static size_t finder_decoded(const uint8_t *raw, size_t length, uint8_t *out)
+{
+    jazhuppe_answer a = jazhuppe_decode(raw, length, out, length);
+
+    if (a.number != 0)
+        different("a decoding of a part");
+    return a.count;
+}
+
+/* Whether the plan, cut there, decodes in its two parts to what it decodes to whole; and how long the first part's text is.
+ * In a reference it does not: its bytes would stay, and they are more than it gives. */
+static bool cut_between(size_t cut, size_t *first)
+{
+    static uint8_t parts[PLAN_MOST];
+    size_t length = *first = finder_decoded(now.plan, cut, parts);
+
+    length += finder_decoded(now.plan + cut, now.plan_len - cut, parts + length);
+    return length == beside.text_len && memcmp(parts, beside.text, length) == 0;
+}
+
+/* Each raw count that was reported, told from decoding alone: the earliest such cut up to which the end is decoded. There the
+ * reference has given four bytes at most. */
+static void hold_raw_counts(void)
+{
+    size_t i = 0;
+
+    for (size_t cut = 1; cut <= now.plan_len && i < reported_count; cut++) {
+        size_t decoded;
+
+        if (!cut_between(cut, &decoded))
+            continue;
+        for (; i < reported_count && reported[2 * i] <= decoded; i++) {
+            if (reported[2 * i + 1] != cut || decoded - reported[2 * i] > 3) {
+                print_list("a pair", reported + 2 * i, JAZHUPPE_PAIR);
+                different("a raw count, by the plan cut in two");
+            }
+            apart_seen += reported[2 * i] != cut;
+            shared_seen += i > 0 && reported[2 * i - 1] == cut;
+        }
+    }
+    if (i < reported_count)
+        different("an end past the plan");
+}
+
+/* One character of the text, by a reference of any length that it may have: its number, in either base. */
+static void spell_by_number(unsigned number)
+{
+    char digits[16];
+    bool hexadecimal = one_in(2);
+    size_t front = hexadecimal ? 3 : 2, most = FORM_MOST - front - 1;
+    size_t length = (size_t)snprintf(digits, sizeof digits, hexadecimal ? "%x" : "%u", number);
+    size_t zeros = one_in(2) ? 0 : below((uint32_t)(most - length) + 1);
+
+    memcpy(beside.spelt + beside.spelt_len, "&#x", front);
+    memset(beside.spelt + beside.spelt_len + front, '0', zeros);
+    memcpy(beside.spelt + beside.spelt_len + front + zeros, digits, length);
+    beside.spelt_len += front + zeros + length;
+    beside.spelt[beside.spelt_len++] = ';';
+}
+
+/* How many of the text's bytes there a reference can give: those of a mark, of a character of two bytes, or one printable
+ * byte; else 0. The number that it would have comes out too. */
+static size_t character_at(size_t at, unsigned *number)
+{
+    const uint8_t *t = beside.text + at;
+    size_t left = beside.text_len - at;
+
+    if (left >= 3 && memcmp(t, "\xEF\xBF\xBD", 3) == 0) {
+        *number = one_in(2) ? 0 : 0xFFFD;
+        return 3;
+    }
+    if (left >= 2 && t[0] >= 0xC2 && t[0] <= 0xDF && t[1] >= 0x80 && t[1] <= 0xBF) {
+        *number = (unsigned)(t[0] & 0x1F) << 6 | (t[1] & 0x3F);
+        return 2;
+    }
+    *number = t[0];
+    return t[0] >= ' ' && t[0] < 127;
+}
+
+/* Spells the text anew, with more references or fewer; every & is one, so that no other comes about. What is spelt last has
+ * given the bytes so far, which is their raw count. */
+static void spell_anew(void)
+{
+    uint32_t often = 1 + below(8);
+    size_t at = 0;
+
+    beside.spelt_len = 0;
+    while (at < beside.text_len) {
+        unsigned number;
+        size_t from = at, gives = character_at(at, &number);
+
+        if (gives > 0 && (beside.text[at] == '&' || one_in(often))) {
+            spell_by_number(number);
+            at += gives;
+        } else {
+            beside.spelt[beside.spelt_len++] = beside.text[at++];
+        }
+        while (from < at)
+            beside.spelt_raws[from++] = (uint32_t)beside.spelt_len;
+    }
+}
+
+/* The pairs that the finder gives of a rule in a plan, which is cut somewhere: their count. */
+static size_t finder_pairs(const uint8_t *rule, size_t length, const uint8_t *plan, size_t plan_len, uint32_t *pairs)
+{
+    static uint64_t value[WORDS];
+    size_t cut = below((uint32_t)plan_len + 1), rest = plan_len - cut, count;
+
+    if (jazhuppe_open(rule, length, now.fold, now.codes, now.codes_len, now.sets, now.sets_len, value, WORDS).number != 0)
+        different("an opening with a rule that was accepted");
+    note("a plan of %zu bytes, cut at %zu\n", plan_len, cut);
+    count = jazhuppe_feed(value, WORDS, plan, cut, pairs, JAZHUPPE_FEED_LIST(cut)).count;
+    count += jazhuppe_feed(value, WORDS, plan + cut, rest, pairs + JAZHUPPE_PAIR * count, JAZHUPPE_FEED_LIST(rest)).count;
+    return count + jazhuppe_finish(value, WORDS, pairs + JAZHUPPE_PAIR * count, JAZHUPPE_FINISH_LIST).count;
+}
+
+static void hold_numbers(const char *what, const uint32_t *given, size_t count, const uint32_t *expected, size_t numbers)
+{
+    if (count == numbers && memcmp(given, expected, count * sizeof *given) == 0)
+        return;
+    print_list("given", given, count);
+    print_list("expected", expected, numbers);
+    different(what);
+}
+
+/* "Two spellings of one plan still agree in decoded ends": the raw counts are those of the new one. */
+static void try_spelt(void)
+{
+    static uint32_t given[JAZHUPPE_FEED_LIST(SPELT_MOST) + JAZHUPPE_FINISH_LIST], expected[JAZHUPPE_PAIR * SECOND_PLAN_MOST];
+    size_t count;
+
+    spell_anew();
+    for (size_t i = 0; i < reported_count; i++) {
+        expected[2 * i] = reported[2 * i];
+        expected[2 * i + 1] = beside.spelt_raws[reported[2 * i] - 1];
+    }
+    count = finder_pairs(now.rule, now.rule_len, beside.spelt, beside.spelt_len, given);
+    hold_numbers("another spelling's ends", given, JAZHUPPE_PAIR * count, expected, JAZHUPPE_PAIR * reported_count);
+    spelt_seen += count;
 }
 
 /* Feeds the plan in random pieces until all are taken, with refused calls in between; then finishes it. */
@@ -440,6 +597,8 @@ static void try_scan(void)
     }
     while (!try_scan_call(true, NULL, 0))
         continue;
+    hold_raw_counts();
+    try_spelt();
     if (one_in(4)) {
         try_scan_call(one_in(2), NULL, 0);
         try_odd_call(3, JAZHUPPE_FEED_LIST(3));
@@ -478,18 +637,6 @@ static void try_again(const uint8_t *rewritten, size_t length)
         different("a rewriting rewritten");
 }
 
-/* The ends that the finder gives of a rule in the plan: their count. */
-static size_t finder_ends(const uint8_t *rule, size_t length, uint32_t *ends)
-{
-    static uint64_t value[WORDS];
-    size_t count;
-
-    if (jazhuppe_open(rule, length, now.fold, now.codes, now.codes_len, now.sets, now.sets_len, value, WORDS).number != 0)
-        different("an opening with a rewriting");
-    count = jazhuppe_feed(value, WORDS, now.plan, now.plan_len, ends, JAZHUPPE_FEED_LIST(now.plan_len)).count;
-    return count + jazhuppe_finish(value, WORDS, ends + count, JAZHUPPE_FINISH_LIST).count;
-}
-
 static size_t finder_starts(const uint8_t *rule, size_t length, uint32_t *starts)
 {
     jazhuppe_answer a = jazhuppe_search(rule, length, now.fold, now.codes, now.codes_len, now.sets, now.sets_len,
@@ -500,28 +647,20 @@ static size_t finder_starts(const uint8_t *rule, size_t length, uint32_t *starts
     return a.count;
 }
 
-static void hold_kept(const char *what, const uint32_t *given, size_t count, const uint32_t *expected, size_t kept)
-{
-    if (count == kept && memcmp(given, expected, kept * sizeof *expected) == 0)
-        return;
-    print_list("given", given, count);
-    print_list("expected", expected, kept);
-    different(what);
-}
-
 /* What the finder finds with the rewriting, where all its steps were at one side: the stored rule's own ends or starts. */
 static void try_kept(const second_rule *stored, const second_rewriting *w)
 {
-    static uint32_t given[JAZHUPPE_FEED_LIST(PLAN_MOST) + JAZHUPPE_FINISH_LIST], expected[PLAN_MOST];
-    size_t kept;
+    static uint32_t given[JAZHUPPE_FEED_LIST(PLAN_MOST) + JAZHUPPE_FINISH_LIST], expected[PLAN_MOST], pairs[2 * PLAN_MOST];
+    size_t count, kept;
 
     if (w->back == 0) {
-        kept = second_ends(stored, beside.text, beside.text_len, expected);
-        hold_kept("the ends of a rewriting", given, finder_ends(w->text, w->length, given), expected, kept);
+        kept = second_pairs(expected, second_ends(stored, beside.text, beside.text_len, expected), beside.raws, pairs);
+        count = finder_pairs(w->text, w->length, now.plan, now.plan_len, given);
+        hold_numbers("the ends of a rewriting", given, JAZHUPPE_PAIR * count, pairs, JAZHUPPE_PAIR * kept);
         kept_ends_seen += kept;
     } else if (w->front == 0) {
         kept = second_starts(stored, beside.text, beside.text_len, expected);
-        hold_kept("the starts of a rewriting", given, finder_starts(w->text, w->length, given), expected, kept);
+        hold_numbers("the starts of a rewriting", given, finder_starts(w->text, w->length, given), expected, kept);
         kept_starts_seen += kept;
     }
 }
@@ -685,7 +824,7 @@ static void count_smudges(void)
 
 static void begin_case(void)
 {
-    asked_len = 0;
+    asked_len = beside.spelt_len = 0;
     asked[0] = '\0';
     lent_in_front = one_in(2);
     /* So that each room has a slice to look at, also where the first call is lent none of it. */
@@ -699,7 +838,7 @@ static void begin_case(void)
 static void try_case(void)
 {
     begin_case();
-    beside.text_len = second_decoded(now.plan, now.plan_len, beside.text);
+    beside.text_len = second_decoded(now.plan, now.plan_len, beside.text, beside.raws);
     decoded_seen += beside.text_len < now.plan_len;
     count_smudges();
     note("prepare\n");
@@ -787,7 +926,7 @@ static void try_often(const char *rule, uint32_t fold, const char *plan, char *c
 static bool decodes_to(const char *raw, const char *hexadecimal)
 {
     static uint8_t out[LINE_ROOM];
-    size_t n = second_decoded((const uint8_t *)raw, strlen(raw), out);
+    size_t n = second_decoded((const uint8_t *)raw, strlen(raw), out, NULL);
 
     if (strlen(hexadecimal) != 2 * n)
         return false;
@@ -914,6 +1053,8 @@ static void print_counts(void)
            kept_starts_seen);
     printf("names covered %lu, by LIKE accepted %lu, not accepted %lu\n", covered_seen, accepted_seen, declined_seen);
     printf("ends %lu, starts %lu, shown %lu, windows %lu\n", ends_seen, starts_seen, shown_seen, windows_seen);
+    printf("raw counts other than the end %lu, shared with the end before %lu, in plans spelt anew %lu\n", apart_seen,
+           shared_seen, spelt_seen);
 }
 
 /* Whether something came up so often in a thousand cases. */
@@ -926,13 +1067,15 @@ static bool enough(const char *what, unsigned long count, unsigned long often)
     return is;
 }
 
-/* Names and patterns of every kind were drawn, so that their answers say something. */
+/* Names, patterns and references of every kind were drawn, so that their answers say something. */
 static bool enough_drawn(void)
 {
     static const int rule_numbers[] = {1, 2, 3, 4, 5, 6, 7, 8, 10, 16}, import_numbers[] = {1, 2, 7, 8, 9, 10, 14};
     bool all = enough("names covered", covered_seen, 500);
     char what[64];
 
+    all = enough("raw counts other than the end", apart_seen, 1000) && all;
+    all = enough("raw counts shared with the end before", shared_seen, 20) && all;
     all = enough("names that LIKE accepts", accepted_seen, 500) && all;
     all = enough("names that LIKE does not accept", declined_seen, 500) && all;
     for (size_t i = 0; i < sizeof rule_numbers / sizeof rule_numbers[0]; i++) {

@@ -139,7 +139,7 @@ static void test_pattern(void)
     munmap(out, over + JAZHUPPE_IMPORT_BUFFER);
 }
 
-/* One piece over the limit; and the needed length, JAZHUPPE_FEED_LIST, is not cut to 32 bits. */
+/* One piece over the limit; and the needed length, JAZHUPPE_FEED_LIST, is not cut to 32 bits, which would make it 60. */
 static void test_piece(void)
 {
     uint64_t *scan = open_scan("a");
@@ -147,26 +147,54 @@ static void test_piece(void)
     uint32_t *ends = lend(&list_room, JAZHUPPE_FINISH_LIST * sizeof *ends);
 
     CHECK(answers(jazhuppe_feed(scan, WORDS, piece, over, ends, JAZHUPPE_FINISH_LIST), JAZHUPPE_TOO_MUCH, 0));
-    CHECK(answers(jazhuppe_feed(scan, WORDS, piece, most, ends, JAZHUPPE_FINISH_LIST - 1), JAZHUPPE_TOO_SHORT, 0));
-    CHECK(answers(jazhuppe_feed(scan, WORDS, piece, most, ends, JAZHUPPE_FINISH_LIST), JAZHUPPE_TOO_SHORT, 0));
+    for (size_t list = 59; list <= JAZHUPPE_FINISH_LIST; list++)
+        CHECK(answers(jazhuppe_feed(scan, WORDS, piece, most, ends, list), JAZHUPPE_TOO_SHORT, 0));
     CHECK(untouched(&scan_room) && untouched(&list_room));
     munmap((void *)piece, over);
 }
 
-/* A scan that has taken nearly all it may. */
-static void test_last_bytes(void)
+/* One number short of what the longest piece needs, and as many as it has bytes, or as its pairs would be: no number of it is
+ * touched. */
+static void test_long_list_too_short(void)
+{
+    size_t needed = JAZHUPPE_FEED_LIST(most), lists[] = {most, most + JAZHUPPE_HELD_MOST, 2 * most, needed - 1};
+    uint64_t *scan = open_scan("a");
+    const uint8_t *piece = untouchable_memory(over);
+    uint32_t *ends = untouchable_memory(needed * sizeof *ends);
+
+    for (size_t i = 0; i < sizeof lists / sizeof lists[0]; i++)
+        CHECK(answers(jazhuppe_feed(scan, WORDS, piece, most, ends, lists[i]), JAZHUPPE_TOO_SHORT, 0));
+    CHECK(answers(jazhuppe_feed(scan, WORDS, piece, over, ends, needed), JAZHUPPE_TOO_MUCH, 0));
+    CHECK(untouched(&scan_room));
+    munmap((void *)piece, over);
+    munmap(ends, needed * sizeof *ends);
+}
+
+/* Pairs one after the other, up to the last one. */
+static bool rising_to(jazhuppe_answer a, const uint32_t *ends, uint32_t count, size_t end, size_t raw)
+{
+    if (a.number != 0 || a.count != count)
+        return false;
+    for (uint32_t i = 0; i < count; i++)
+        if (ends[2 * i] != end - count + 1 + i || ends[2 * i + 1] != raw - count + 1 + i)
+            return false;
+    return true;
+}
+
+/* A scan that has taken nearly all it may, and decoded most of it or little. */
+static void take_last_bytes(size_t decoded)
 {
     uint64_t *scan = open_scan("a");
     const uint8_t *piece = (const uint8_t *)"aaaaaa";
     uint32_t *ends = lend(&list_room, JAZHUPPE_FEED_LIST(6) * sizeof *ends);
-    jazhuppe_answer a;
 
-    scan[RAW] = scan[DECODED] = most - 5;
+    scan[RAW] = most - 5;
+    scan[DECODED] = decoded - 5;
     lent_anew(&scan_room);
     CHECK(answers(jazhuppe_feed(scan, WORDS, piece, 6, ends, JAZHUPPE_FEED_LIST(6)), JAZHUPPE_TOO_MUCH, 0));
     CHECK(untouched(&scan_room) && untouched(&list_room));
-    a = jazhuppe_feed(scan, WORDS, piece, 5, ends, JAZHUPPE_FEED_LIST(5));
-    CHECK(a.number == 0 && a.count == 5 && ends[0] == most - 4 && ends[4] == most && scan[RAW] == most);
+    CHECK(rising_to(jazhuppe_feed(scan, WORDS, piece, 5, ends, JAZHUPPE_FEED_LIST(5)), ends, 5, decoded, most));
+    CHECK(scan[RAW] == most && scan[DECODED] == decoded);
     lent_anew(&scan_room);
     CHECK(answers(jazhuppe_feed(scan, WORDS, piece, 1, ends, JAZHUPPE_FEED_LIST(1)), JAZHUPPE_TOO_MUCH, 0));
     CHECK(untouched(&scan_room));
@@ -174,21 +202,41 @@ static void test_last_bytes(void)
     CHECK(answers(jazhuppe_finish(scan, WORDS, ends, JAZHUPPE_FINISH_LIST), 0, 0));
 }
 
+static void test_last_bytes(void)
+{
+    take_last_bytes(most);
+    take_last_bytes(most / 2 + 3);
+    take_last_bytes(5);
+}
+
+/* A reference whose ; is the last byte that may be: all that it gives has that count. */
+static void test_last_reference(void)
+{
+    uint64_t *scan = open_scan(".");
+    uint32_t *ends = lend(&list_room, JAZHUPPE_FEED_LIST(9) * sizeof *ends);
+    jazhuppe_answer a;
+
+    scan[RAW] = scan[DECODED] = most - 9;
+    a = jazhuppe_feed(scan, WORDS, (const uint8_t *)"&#x1F600;", 9, ends, JAZHUPPE_FEED_LIST(9));
+    CHECK(a.number == 0 && a.count == 4 && scan[RAW] == most && scan[DECODED] == most - 5);
+    for (uint32_t i = 0; i < 4; i++)
+        CHECK(ends[2 * i] == most - 8 + i && ends[2 * i + 1] == most);
+}
+
 /* Held bytes count as taken, and the finish may let them through up to the limit. */
 static void test_last_held(void)
 {
     uint64_t *scan = open_scan(".");
     uint32_t *ends = lend(&list_room, JAZHUPPE_FEED_LIST(3) * sizeof *ends);
-    jazhuppe_answer a;
 
     scan[RAW] = scan[DECODED] = most - 3;
     CHECK(answers(jazhuppe_feed(scan, WORDS, (const uint8_t *)"&am", 3, ends, JAZHUPPE_FEED_LIST(3)), 0, 0));
     CHECK(answers(jazhuppe_feed(scan, WORDS, (const uint8_t *)"p", 1, ends, JAZHUPPE_FEED_LIST(1)), JAZHUPPE_TOO_MUCH, 0));
-    a = jazhuppe_finish(scan, WORDS, ends, JAZHUPPE_FINISH_LIST);
-    CHECK(a.number == 0 && a.count == 3 && ends[0] == most - 2 && ends[2] == most);
+    CHECK(rising_to(jazhuppe_finish(scan, WORDS, ends, JAZHUPPE_FINISH_LIST), ends, 3, most, most));
 }
 
-/* As much as may be, searched and scanned: a seat at the very end is found. */
+/* As much as may be, searched and scanned: a seat at the very end is found. The reference at the front is four bytes less when
+ * it is decoded. */
 static void test_longest(void)
 {
     size_t list = JAZHUPPE_FEED_LIST(most);
@@ -197,11 +245,11 @@ static void test_longest(void)
     uint64_t *scan = open_scan("A[0-9]+");
     jazhuppe_answer a;
 
+    memcpy(text, "&amp;", 5);
     memcpy(text + most - 3, "A12", 3);
     a = jazhuppe_search((const uint8_t *)"A[0-9]+", 7, 0, NO_CODES, text, most, places, most);
     CHECK(a.number == 0 && a.count == 1 && places[0] == most - 3);
-    a = jazhuppe_feed(scan, WORDS, text, most, places, list);
-    CHECK(a.number == 0 && a.count == 2 && places[0] == most - 1 && places[1] == most);
+    CHECK(rising_to(jazhuppe_feed(scan, WORDS, text, most, places, list), places, 2, most - 4, most));
     munmap(text, most);
     munmap(places, list * sizeof *places);
 }
@@ -241,7 +289,9 @@ int main(void)
     run("10: a name over the limit, after the rule, untouched", test_name);
     run("10: a pattern over the limit, after 9, untouched", test_pattern);
     run("10: a piece over the limit; 9 just below it", test_piece);
+    run("9: a list of gigabytes, one number too short", test_long_list_too_short);
     run("10: the last bytes of a plan, one by one", test_last_bytes);
+    run("a reference that ends at the limit", test_last_reference);
     run("10: held bytes at the limit", test_last_held);
     run("the longest text, searched and scanned", test_longest);
     run("the longest name", test_longest_name);

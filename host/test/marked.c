@@ -1,5 +1,5 @@
-/* marked.c: the requirement's marked table, its lister example, the fold, codes, rewritings of stored rules, whole names,
- * imports of LIKE patterns, and the header's constants, through the header. */
+/* marked.c: the requirement's marked table, its lister example, raw counts, the fold, codes, rewritings of stored rules,
+ * whole names, imports of LIKE patterns, and the header's constants, through the header. */
 #include <ctype.h>
 #include <stdio.h>
 #include <string.h>
@@ -18,6 +18,11 @@ typedef struct {
     size_t count;
     uint32_t at[MOST];
 } places;
+
+/* Ends, and the raw count of each. */
+typedef struct {
+    places ends, raws;
+} pairs;
 
 typedef struct {
     const char *name, *rule, *text;
@@ -41,7 +46,6 @@ static const marked table[] = {
     {"lister", "Row A&B [0-9]+", "Row A&B 12;", 9, 9, {2, {9, 10}}, {1, {0}}, 1, {1, {9}}},
 };
 enum { MARKED = sizeof table / sizeof table[0] };
-
 
 static bool same(const places *marked_places, const places *given)
 {
@@ -92,57 +96,71 @@ static uint64_t *open_scan(const char *rule)
     return scan;
 }
 
-/* Adds what a call reported. */
-static void add(places *all, jazhuppe_answer a, const uint32_t *list)
+/* Adds of each entry that a call reported, of so many numbers, the one at `list`. */
+static void add(places *all, jazhuppe_answer a, const uint32_t *list, size_t apart)
 {
     CHECK(a.number == 0 && a.place == 0 && a.windows == 0);
-    CHECK(untouched_past(&list_room, a.count * sizeof *list));
+    CHECK(untouched_past(&list_room, a.count * apart * sizeof *list));
     if (a.number != 0 || all->count + a.count > MOST)
         return;
-    memcpy(all->at + all->count, list, a.count * sizeof *list);
-    all->count += a.count;
+    for (size_t i = 0; i < a.count; i++)
+        all->at[all->count++] = list[i * apart];
 }
 
-static void feed(uint64_t *scan, const char *piece, size_t length, places *ends)
+static void add_pairs(pairs *all, jazhuppe_answer a, const uint32_t *list)
+{
+    add(&all->ends, a, list, JAZHUPPE_PAIR);
+    add(&all->raws, a, list + 1, JAZHUPPE_PAIR);
+}
+
+static void feed(uint64_t *scan, const char *piece, size_t length, pairs *all)
 {
     uint32_t *list = lend(&list_room, JAZHUPPE_FEED_LIST(length) * sizeof *list);
     const uint8_t *bytes = lend_bytes(&text_room, piece, length);
 
-    add(ends, jazhuppe_feed(scan, JAZHUPPE_SCAN_WORDS, bytes, length, list, JAZHUPPE_FEED_LIST(length)), list);
+    add_pairs(all, jazhuppe_feed(scan, JAZHUPPE_SCAN_WORDS, bytes, length, list, JAZHUPPE_FEED_LIST(length)), list);
     CHECK(untouched(&text_room));
 }
 
-static void finish(uint64_t *scan, places *ends)
+static void finish(uint64_t *scan, pairs *all)
 {
     uint32_t *list = lend(&list_room, JAZHUPPE_FINISH_LIST * sizeof *list);
 
-    add(ends, jazhuppe_finish(scan, JAZHUPPE_SCAN_WORDS, list, JAZHUPPE_FINISH_LIST), list);
+    add_pairs(all, jazhuppe_finish(scan, JAZHUPPE_SCAN_WORDS, list, JAZHUPPE_FINISH_LIST), list);
+}
+
+static pairs no_pairs(void)
+{
+    pairs none;
+
+    memset(&none, 0, sizeof none);
+    return none;
 }
 
 /* The ends of a plan that is fed in pieces of `step` bytes after a first one of `first`. */
-static places scanned(const char *rule, const char *plan, size_t first, size_t step)
+static pairs scanned(const char *rule, const char *plan, size_t first, size_t step)
 {
-    places ends = {0, {0}};
+    pairs all = no_pairs();
     size_t length = strlen(plan);
     uint64_t *scan = open_scan(rule);
 
-    feed(scan, plan, first, &ends);
+    feed(scan, plan, first, &all);
     for (size_t at = first; at < length; at += step)
-        feed(scan, plan + at, length - at < step ? length - at : step, &ends);
-    finish(scan, &ends);
-    return ends;
+        feed(scan, plan + at, length - at < step ? length - at : step, &all);
+    finish(scan, &all);
+    return all;
 }
 
-/* Scans a plan whole, byte by byte, and cut at every place. */
-static void scan_every_way(const char *rule, const char *plan, const places *marked_ends)
+/* Scans a plan whole, byte by byte, and cut at every place. Where nothing is decoded in it, its raw counts are the ends. */
+static void scan_every_way(const char *rule, const char *plan, const places *ends, const places *raws)
 {
     size_t length = strlen(plan);
-    places ends = scanned(rule, plan, 0, 1);
+    pairs all = scanned(rule, plan, 0, 1);
 
-    CHECK(same(marked_ends, &ends));
+    CHECK(same(ends, &all.ends) && same(raws, &all.raws));
     for (size_t first = 0; first <= length; first++) {
-        ends = scanned(rule, plan, first, length);
-        CHECK(same(marked_ends, &ends));
+        all = scanned(rule, plan, first, length);
+        CHECK(same(ends, &all.ends) && same(raws, &all.raws));
     }
 }
 
@@ -168,7 +186,7 @@ static void search_marked(const marked *m)
 
     CHECK(m->windows == NOT_MARKED || a.windows == (uint32_t)m->windows);
     a.windows = 0;
-    add(&starts, a, list);
+    add(&starts, a, list, 1);
     CHECK(same(&m->starts, &starts));
     CHECK(untouched(&rule_room) && untouched(&text_room));
 }
@@ -200,7 +218,7 @@ static void hold_row(const marked *m)
     about("%s", m->name);
     CHECK(p.number == 0 && p.place == 0 && p.positions == m->positions && p.shortest == m->shortest);
     CHECK(decoded(m->text, strlen(m->text), text) == strlen(m->text));
-    scan_every_way(m->rule, m->text, &m->ends);
+    scan_every_way(m->rule, m->text, &m->ends, &m->ends);
     search_marked(m);
     show_marked(m);
 }
@@ -355,7 +373,7 @@ static void test_lister_plan(void)
     uint8_t out[64];
 
     CHECK(decoded(plan, strlen(plan), out) == strlen(text) && memcmp(out, text, strlen(text)) == 0);
-    scan_every_way("Row A&B [0-9]+", plan, &table[MARKED - 1].ends);
+    scan_every_way("Row A&B [0-9]+", plan, &table[MARKED - 1].ends, &(const places){2, {13, 14}});
 }
 
 static void decodes(const char *name, const char *plan, const char *text)
@@ -371,13 +389,13 @@ static void stays(const char *name, const char *plan)
     decodes(name, plan, plan);
 }
 
-/* The decoded text occurs in the plan, however it is cut, and ends where it ends. */
-static void occurs(const char *rule, const char *plan, uint32_t end)
+/* The decoded text occurs in the plan, however it is cut, and ends where it ends, there and in the plan as it is spelt. */
+static void occurs(const char *rule, const char *plan, uint32_t end, uint32_t raw)
 {
-    places ends = {1, {end}};
+    places ends = {1, {end}}, raws = {1, {raw}};
 
     about("%s in %s", rule, plan);
-    scan_every_way(rule, plan, &ends);
+    scan_every_way(rule, plan, &ends, &raws);
 }
 
 static void test_references(void)
@@ -386,10 +404,10 @@ static void test_references(void)
     decodes("M10", "&#xE9;", "\xC3\xA9");
     decodes("M11", "&#0;", MARK);
     stays("M11", "&am");
-    occurs("&amp;", "&amp;amp;", 5);
-    occurs("\xC3\xA9", "&#xE9;", 2);
-    occurs(MARK, "&#0;", 3);
-    occurs("&am", "&am", 3);
+    occurs("&amp;", "&amp;amp;", 5, 9);
+    occurs("\xC3\xA9", "&#xE9;", 2, 6);
+    occurs(MARK, "&#0;", 3, 4);
+    occurs("&am", "&am", 3, 3);
 }
 
 /* A form of so many bytes, padded with zeros to that length. */
@@ -412,16 +430,16 @@ static void test_padded_forms(void)
     for (size_t bytes = 8; bytes <= 32; bytes++) {
         decodes("padded", padded("&#", "38", bytes), "&");
         decodes("padded", padded("&#x", "e9", bytes), "\xC3\xA9");
-        occurs("&", padded("&#", "38", bytes), 1);
-        occurs("\xC3\xA9", padded("&#x", "e9", bytes), 2);
+        occurs("&", padded("&#", "38", bytes), 1, (uint32_t)bytes);
+        occurs("\xC3\xA9", padded("&#x", "e9", bytes), 2, (uint32_t)bytes);
         decodes("zeros", padded("&#", "0", bytes), MARK);
         decodes("zeros", padded("&#x", "0", bytes), MARK);
     }
     for (size_t bytes = 33; bytes <= 35; bytes++) {
         stays("too long", padded("&#", "38", bytes));
         stays("too long", padded("&#x", "e9", bytes));
-        occurs("&#0+38;", padded("&#", "38", bytes), (uint32_t)bytes);
-        occurs("&#x0+e9;", padded("&#x", "e9", bytes), (uint32_t)bytes);
+        occurs("&#0+38;", padded("&#", "38", bytes), (uint32_t)bytes, (uint32_t)bytes);
+        occurs("&#x0+e9;", padded("&#x", "e9", bytes), (uint32_t)bytes, (uint32_t)bytes);
     }
 }
 
@@ -436,7 +454,7 @@ static void test_great_numbers(void)
 
     for (size_t i = 0; i < sizeof forms / sizeof forms[0]; i++) {
         decodes("a great number", forms[i], MARK);
-        occurs(MARK, forms[i], 3);
+        occurs(MARK, forms[i], 3, (uint32_t)strlen(forms[i]));
     }
 }
 
@@ -468,18 +486,21 @@ static void test_borders_of_char(void)
     }
 }
 
-/* The mark's bytes are three places: a rule for one of them ends inside the reference, however the plan is cut. */
+/* The mark's bytes are three places: a rule for one of them ends inside the reference, however the plan is cut, and has the
+ * reference's raw count. */
 static void test_inside_one_reference(void)
 {
     static const char *const plans[] = {"a&#0;b", "a&#xD800;b", "a&#65533;b", "a&#xFFFFFFFFFFFFFFFFFFFFFFFFFFFF;b"};
 
     for (size_t i = 0; i < sizeof plans / sizeof plans[0]; i++) {
+        uint32_t length = (uint32_t)strlen(plans[i]);
+
         decodes(plans[i], plans[i], "a" MARK "b");
-        occurs("\xEF", plans[i], 2);
-        occurs("\xBF", plans[i], 3);
-        occurs("\xBD", plans[i], 4);
-        occurs("a..", plans[i], 3);
-        occurs("a[\x80-\xFF]+b", plans[i], 5);
+        occurs("\xEF", plans[i], 2, length - 1);
+        occurs("\xBF", plans[i], 3, length - 1);
+        occurs("\xBD", plans[i], 4, length - 1);
+        occurs("a..", plans[i], 3, length - 1);
+        occurs("a[\x80-\xFF]+b", plans[i], 5, length);
     }
 }
 
@@ -492,17 +513,124 @@ static void test_no_forms(void)
         stays(plans[i], plans[i]);
 }
 
-/* "Two finished plans that decode alike, one padded and one short, still get the same ends and starts." */
+/* "Two finished plans that decode alike, one padded and one short, still get the same ends and starts"; "their raw counts may
+ * differ." */
 static void test_padded_and_short(void)
 {
-    static const char *const plans[] = {"Row A&#0000000038;B 12;", "Row A&#38;B 12;"};
+    static const struct {
+        const char *plan;
+        places raws;
+    } spellings[] = {
+        {"Row A&#0000000038;B 12;", {2, {21, 22}}}, {"Row A&#38;B 12;", {2, {13, 14}}}, {"Row A&B 12;", {2, {9, 10}}},
+        {"Row A&B 1&#50;", {2, {9, 14}}}, {"&#82;&#111;w A&#x26;B &#49;2;", {2, {27, 28}}},
+    };
     const marked *m = &table[MARKED - 1];
 
-    for (size_t i = 0; i < sizeof plans / sizeof plans[0]; i++) {
-        decodes(plans[i], plans[i], m->text);
-        scan_every_way(m->rule, plans[i], &m->ends);
+    for (size_t i = 0; i < sizeof spellings / sizeof spellings[0]; i++) {
+        about("%s", spellings[i].plan);
+        scan_every_way(m->rule, spellings[i].plan, &m->ends, &spellings[i].raws);
     }
+    decodes("padded", spellings[0].plan, m->text);
+    decodes("short", spellings[1].plan, m->text);
     search_marked(m);
+}
+
+/* ---- raw counts */
+
+typedef struct {
+    const char *rule, *plan;
+    places ends, raws;
+} raw_row;
+
+#define PADDED "&#00000000000000000000000000038;"
+
+static const raw_row raw_table[] = {
+    /* The bytes of one reference share its count: two, three, four of them. */
+    {".", "&#xE9;", {2, {1, 2}}, {2, {6, 6}}},
+    {".", "a&#xE9;b", {4, {1, 2, 3, 4}}, {4, {1, 7, 7, 8}}},
+    {".", "&#0;", {3, {1, 2, 3}}, {3, {4, 4, 4}}},
+    {".", "a&#xD800;b", {5, {1, 2, 3, 4, 5}}, {5, {1, 9, 9, 9, 10}}},
+    {".", "&#x1F600;", {4, {1, 2, 3, 4}}, {4, {9, 9, 9, 9}}},
+    {".", "a&#128512;b", {6, {1, 2, 3, 4, 5, 6}}, {6, {1, 10, 10, 10, 10, 11}}},
+    {".", "\xC3\xA9", {2, {1, 2}}, {2, {1, 2}}},
+    /* An end inside a reference has the count of the whole. */
+    {"\xC3", "&#xE9;", {1, {1}}, {1, {6}}},
+    {"a\xF0\x9F", "a&#x1F600;", {1, {3}}, {1, {10}}},
+    /* One after the other. */
+    {".", "&lt;&gt;", {2, {1, 2}}, {2, {4, 8}}},
+    {".", "&&amp;", {2, {1, 2}}, {2, {1, 6}}},
+    {".", "&&&amp;", {3, {1, 2, 3}}, {3, {1, 2, 7}}},
+    {".", "&amp;amp;", {5, {1, 2, 3, 4, 5}}, {5, {5, 6, 7, 8, 9}}},
+    {"a+", "a&#97;a", {3, {1, 2, 3}}, {3, {1, 6, 7}}},
+    /* A tail that is let through, by &, by another byte, by the plan's end: byte by byte. */
+    {".", "&am", {3, {1, 2, 3}}, {3, {1, 2, 3}}},
+    {".", "&am&", {4, {1, 2, 3, 4}}, {4, {1, 2, 3, 4}}},
+    {".", "&am&amp;", {4, {1, 2, 3, 4}}, {4, {1, 2, 3, 8}}},
+    {".", "&amq", {4, {1, 2, 3, 4}}, {4, {1, 2, 3, 4}}},
+    {".", "&amq&lt;", {5, {1, 2, 3, 4, 5}}, {5, {1, 2, 3, 4, 8}}},
+    {".", "&lt;&#xE", {5, {1, 2, 3, 4, 5}}, {5, {4, 5, 6, 7, 8}}},
+    {"m", "&lt;&am", {1, {4}}, {1, {7}}},
+    /* As long as a form may be. */
+    {".", PADDED, {1, {1}}, {1, {32}}},
+    {".", "a" PADDED "b", {3, {1, 2, 3}}, {3, {1, 33, 34}}},
+    {"&+", PADDED PADDED, {2, {1, 2}}, {2, {32, 64}}},
+    {"[^0-9]", "&#000000000000000000000000000038;", {3, {1, 2, 33}}, {3, {1, 2, 33}}},
+    {"Row A&B [0-9]+", "Row A&amp;B 12;", {2, {9, 10}}, {2, {13, 14}}},
+};
+
+static void test_raw_counts(void)
+{
+    for (size_t i = 0; i < sizeof raw_table / sizeof raw_table[0]; i++) {
+        const raw_row *row = &raw_table[i];
+
+        about("%s in %s", row->rule, row->plan);
+        scan_every_way(row->rule, row->plan, &row->ends, &row->raws);
+    }
+}
+
+/* The next call on a scan for every byte: what it alone reports. A finish where there is no piece. */
+static void next_gives(uint64_t *scan, const char *piece, places ends, places raws)
+{
+    pairs all = no_pairs();
+
+    about("next, %s", piece == NULL ? "a finish" : piece);
+    if (piece == NULL)
+        finish(scan, &all);
+    else
+        feed(scan, piece, strlen(piece), &all);
+    CHECK(same(&ends, &all.ends) && same(&raws, &all.raws));
+}
+
+/* A reference over three pieces counts where its ; stands, and what comes after it goes on from there. */
+static void test_raw_over_pieces(void)
+{
+    const places none = {0, {0}};
+    uint64_t *scan = open_scan(".");
+
+    next_gives(scan, "a&#", (places){1, {1}}, (places){1, {1}});
+    next_gives(scan, "x1F6", none, none);
+    next_gives(scan, "", none, none);
+    next_gives(scan, "00;b&am", (places){5, {2, 3, 4, 5, 6}}, (places){5, {10, 10, 10, 10, 11}});
+    next_gives(scan, "p", none, none);
+    next_gives(scan, ";", (places){1, {7}}, (places){1, {16}});
+    next_gives(scan, "&#0", none, none);
+    next_gives(scan, NULL, (places){3, {8, 9, 10}}, (places){3, {17, 18, 19}});
+}
+
+/* What a later piece lets through has the places where it stood, and not that piece's. */
+static void test_raw_let_through(void)
+{
+    const places none = {0, {0}};
+    uint64_t *scan = open_scan(".");
+
+    next_gives(scan, "&am", none, none);
+    next_gives(scan, "q", (places){4, {1, 2, 3, 4}}, (places){4, {1, 2, 3, 4}});
+    next_gives(scan, "&#", none, none);
+    next_gives(scan, "&lt;", (places){3, {5, 6, 7}}, (places){3, {5, 6, 10}});
+    next_gives(scan, "&a", none, none);
+    next_gives(scan, "&", (places){2, {8, 9}}, (places){2, {11, 12}});
+    next_gives(scan, "gt", none, none);
+    next_gives(scan, NULL, (places){3, {10, 11, 12}}, (places){3, {13, 14, 15}});
 }
 
 /* ---- codes */
@@ -579,7 +707,7 @@ static void hold_both(const char *rule, const char *text, places ends, places st
 {
     marked m = {"codes", rule, text, 0, 0, ends, starts, windows, {0, {0}}};
 
-    scan_every_way(rule, text, &ends);
+    scan_every_way(rule, text, &ends, &ends);
     search_marked(&m);
 }
 
@@ -600,17 +728,17 @@ static void test_codes(void)
 static void test_codes_decoded(void)
 {
     name('?', "b");
-    occurs("xb", "x?", 2);
-    occurs("xb", "x&#63;", 2);
-    occurs("xb", "x&#x3F;", 2);
-    occurs("xb", "x&#000000000000000000000000063;", 2);
+    occurs("xb", "x?", 2, 2);
+    occurs("xb", "x&#63;", 2, 6);
+    occurs("xb", "x&#x3F;", 2, 7);
+    occurs("xb", "x&#000000000000000000000000063;", 2, 31);
     name(0xA9, "b");
-    occurs("\xC3" "b", "&#xE9;", 2);
+    occurs("\xC3" "b", "&#xE9;", 2, 6);
     name('&', "b");
-    occurs("xb", "x&amp;", 2);
-    occurs("xbamp", "x&amp;amp", 5);
-    occurs("xb", "x&", 2);
-    occurs("xbam", "x&am", 4);
+    occurs("xb", "x&amp;", 2, 6);
+    occurs("xbamp", "x&amp;amp", 5, 9);
+    occurs("xb", "x&", 2, 2);
+    occurs("xbam", "x&am", 4, 4);
     name_nothing();
 }
 
@@ -621,15 +749,15 @@ static bool occurs_alone(uint8_t b, uint8_t text)
     const char spelt[] = {'\\', (char)b}, byte = (char)text;
     const uint8_t *rule = lend_bytes(&rule_room, spelt + !escaped, 1 + escaped);
     uint64_t *scan = lend(&scan_room, JAZHUPPE_SCAN_WORDS * sizeof *scan);
-    places ends = {0, {0}};
+    pairs all = no_pairs();
     jazhuppe_answer a;
 
     CHECK(open_named(rule, 1 + escaped, scan).number == 0);
-    feed(scan, &byte, 1, &ends);
-    finish(scan, &ends);
+    feed(scan, &byte, 1, &all);
+    finish(scan, &all);
     a = search_named(rule, 1 + escaped, lend_bytes(&text_room, &byte, 1), 1, lend(&list_room, sizeof(uint32_t)));
-    CHECK(a.number == 0 && a.count == ends.count && a.windows == 1);
-    return ends.count == 1;
+    CHECK(a.number == 0 && a.count == all.ends.count && a.windows == 1);
+    return all.ends.count == 1;
 }
 
 /* A set of one byte x is bit x % 8 of byte x / 8, and fits a rule of that byte and of no other. */
@@ -669,19 +797,20 @@ static void test_each_code(void)
 static void test_codes_0_and_255(void)
 {
     const char text[] = {0, (char)255, 'a', (char)255, 0, 'b'};
-    places ends = {0, {0}}, starts = {0, {0}}, marked_ends = {3, {2, 4, 6}}, marked_starts = {3, {0, 2, 4}};
+    places starts = {0, {0}}, marked_ends = {3, {2, 4, 6}}, marked_starts = {3, {0, 2, 4}};
+    pairs all = no_pairs();
     uint32_t *list;
     jazhuppe_answer a;
 
     name(0, "a");
     name(255, "b");
-    feed(open_scan("ab"), text, sizeof text, &ends);
-    CHECK(same(&marked_ends, &ends));
+    feed(open_scan("ab"), text, sizeof text, &all);
+    CHECK(same(&marked_ends, &all.ends) && same(&marked_ends, &all.raws));
     list = lend(&list_room, sizeof text * sizeof *list);
     a = search_named(lend_rule("ab"), 2, lend_bytes(&text_room, text, sizeof text), sizeof text, list);
     CHECK(a.windows == 3);
     a.windows = 0;
-    add(&starts, a, list);
+    add(&starts, a, list, 1);
     CHECK(same(&marked_starts, &starts));
     name_nothing();
 }
@@ -1235,16 +1364,28 @@ static void test_scan_words(void)
 static uint64_t *hold_most(void)
 {
     const char *tail = "&#00000000000000000000000000038";
-    places none = {0, {0}};
+    pairs none = no_pairs();
     uint64_t *scan = open_scan(".");
 
     feed(scan, tail, strlen(tail), &none);
-    CHECK(strlen(tail) == JAZHUPPE_HELD_MOST && none.count == 0 && scan[HELD] == JAZHUPPE_HELD_MOST);
+    CHECK(strlen(tail) == JAZHUPPE_HELD_MOST && none.ends.count == 0 && scan[HELD] == JAZHUPPE_HELD_MOST);
     return scan;
 }
 
-/* Feeds one byte more, with a list one too short and then just long enough: so many ends, and so many bytes held. */
-static void feed_one_more(const char *byte, uint32_t count, uint64_t held)
+/* The list that was lent last begins with so many pairs, ends from 1 on and raw counts from `raw` on, and past them is as it
+ * was. */
+static void holds_pairs(jazhuppe_answer a, uint32_t count, uint32_t raw)
+{
+    const uint32_t *list = (const uint32_t *)(const void *)list_room.slice;
+
+    CHECK(a.number == 0 && a.count == count && untouched_past(&list_room, count * JAZHUPPE_PAIR * sizeof *list));
+    for (uint32_t i = 0; i < a.count; i++)
+        CHECK(list[2 * i] == i + 1 && list[2 * i + 1] == raw + i);
+}
+
+/* Feeds one byte more, with a list one number too short and then just long enough: so many pairs, the first with this raw
+ * count, and so many bytes held. */
+static void feed_one_more(const char *byte, uint32_t count, uint32_t raw, uint64_t held)
 {
     uint64_t *scan = hold_most();
     uint32_t *list = lend(&list_room, (JAZHUPPE_FEED_LIST(1) - 1) * sizeof *list);
@@ -1254,22 +1395,23 @@ static void feed_one_more(const char *byte, uint32_t count, uint64_t held)
     about("%d bytes held, then %s", JAZHUPPE_HELD_MOST, byte);
     CHECK(a.number == JAZHUPPE_TOO_SHORT && untouched(&list_room));
     list = lend(&list_room, JAZHUPPE_FEED_LIST(1) * sizeof *list);
-    a = jazhuppe_feed(scan, JAZHUPPE_SCAN_WORDS, piece, 1, list, JAZHUPPE_FEED_LIST(1));
-    CHECK(a.number == 0 && a.count == count && scan[HELD] == held && untouched_past(&list_room, count * sizeof *list));
-    for (uint32_t i = 0; i < a.count; i++)
-        CHECK(list[i] == i + 1);
+    holds_pairs(jazhuppe_feed(scan, JAZHUPPE_SCAN_WORDS, piece, 1, list, JAZHUPPE_FEED_LIST(1)), count, raw);
+    CHECK(scan[HELD] == held);
 }
 
-/* As many bytes held back as may be. A digit more lets all through: a feed of one byte then fills its list. */
+/* As many bytes held back as may be. A digit more lets all through: a feed of one byte then fills its list, 32 pairs in 64
+ * numbers. */
 static void test_held_most(void)
 {
-    feed_one_more(";", 1, 0);
-    feed_one_more("0", JAZHUPPE_FEED_LIST(1), 0);
-    feed_one_more("x", JAZHUPPE_FEED_LIST(1), 0);
-    feed_one_more("&", JAZHUPPE_HELD_MOST, 1);
+    CHECK(JAZHUPPE_FEED_LIST(1) == 64 && JAZHUPPE_FEED_LIST(0) == 62 && JAZHUPPE_FEED_LIST(2 - 1) == 64);
+    CHECK(JAZHUPPE_FEED_LIST(JAZHUPPE_TEXT_MOST) == ((uint64_t)1 << 33) + 60);
+    feed_one_more(";", 1, 32, 0);
+    feed_one_more("0", 32, 1, 0);
+    feed_one_more("x", 32, 1, 0);
+    feed_one_more("&", 31, 1, 1);
 }
 
-/* A finish's list, one too short and just long enough: it is filled. */
+/* A finish's list, one number too short and just long enough: it is filled, 31 pairs in 62 numbers. */
 static void test_finish_list(void)
 {
     uint64_t *scan = hold_most();
@@ -1278,10 +1420,8 @@ static void test_finish_list(void)
 
     CHECK(a.number == JAZHUPPE_TOO_SHORT && untouched(&list_room));
     list = lend(&list_room, JAZHUPPE_FINISH_LIST * sizeof *list);
-    a = jazhuppe_finish(scan, JAZHUPPE_SCAN_WORDS, list, JAZHUPPE_FINISH_LIST);
-    CHECK(a.number == 0 && a.count == JAZHUPPE_FINISH_LIST);
-    for (uint32_t i = 0; i < a.count; i++)
-        CHECK(list[i] == i + 1);
+    holds_pairs(jazhuppe_finish(scan, JAZHUPPE_SCAN_WORDS, list, JAZHUPPE_FINISH_LIST), 31, 1);
+    CHECK(JAZHUPPE_FINISH_LIST == 62);
 }
 
 /* A search's list and a decoder's buffer. */
@@ -1330,11 +1470,11 @@ static void test_positions_most(void)
 
 static void test_empty_piece(void)
 {
-    places ends = {0, {0}};
+    pairs all = no_pairs();
     uint64_t *scan = open_scan("a");
 
-    feed(scan, "", 0, &ends);
-    CHECK(ends.count == 0);
+    feed(scan, "", 0, &all);
+    CHECK(all.ends.count == 0);
 }
 
 /* The starts of a folded rule in a text of all 256 bytes: exactly b and its other case, or exactly the other bytes. */
@@ -1394,6 +1534,9 @@ static void run_all(void)
     run("ends inside one reference", test_inside_one_reference);
     run("misspelled references stay", test_no_forms);
     run("a padded plan and a short one", test_padded_and_short);
+    run("raw counts", test_raw_counts);
+    run("raw counts over pieces", test_raw_over_pieces);
+    run("raw counts of what a later piece lets through", test_raw_let_through);
     run("codes: scan and search", test_codes);
     run("codes in the decoded plan", test_codes_decoded);
     run("codes: the order of a set's bits", test_bit_order);

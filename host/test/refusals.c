@@ -461,7 +461,25 @@ static void test_short_scan(void)
             both_refuse(JAZHUPPE_SCAN_WORDS, piece, list, list % JAZHUPPE_FINISH_LIST, JAZHUPPE_TOO_SHORT);
     ends = lend(&list_room, JAZHUPPE_FEED_LIST(1) * sizeof *ends);
     a = jazhuppe_feed(scan, JAZHUPPE_SCAN_WORDS, lend_bytes(&text_room, "a", 1), 1, ends, JAZHUPPE_FEED_LIST(1));
-    CHECK(a.number == 0 && a.count == 1 && ends[0] == 1 && untouched_past(&list_room, sizeof *ends));
+    CHECK(a.number == 0 && a.count == 1 && ends[0] == 1 && ends[1] == 1);
+    CHECK(untouched_past(&list_room, JAZHUPPE_PAIR * sizeof *ends));
+}
+
+/* A list is counted in numbers, two for each pair: one number less than it needs is 9, as much and one more, or any, pass. */
+static void test_list_numbers(void)
+{
+    for (size_t piece = 0; piece < 20; piece++)
+        for (size_t more = 0; more < 4; more++) {
+            size_t needed = 2 * (piece + 31), list = needed - 1 + more;
+            uint64_t *scan = open_scan("a");
+            const uint8_t *bytes = lend(&text_room, piece);
+            uint32_t number = more == 0 ? JAZHUPPE_TOO_SHORT : 0, *ends = lend(&list_room, list * sizeof *ends);
+
+            CHECK(same_answer(jazhuppe_feed(scan, JAZHUPPE_SCAN_WORDS, bytes, piece, ends, list), refusal(number, 0)));
+            ends = lend(&list_room, (61 + more) * sizeof *ends);
+            CHECK(same_answer(jazhuppe_finish(scan, JAZHUPPE_SCAN_WORDS, ends, 61 + more), refusal(number, 0)));
+            CHECK(untouched(&list_room));
+        }
 }
 
 /* 12: after a finish every call is refused, with any piece and list, and a new opening takes the value up again. */
@@ -604,6 +622,7 @@ static void run_all(void)
     run("15: NULL with length 0", test_null_codes);
     run("9: a search's list, a decoder's buffer", test_short_whole);
     run("9: a feed's and a finish's list", test_short_scan);
+    run("9: lists are counted in numbers", test_list_numbers);
     run("12: a finished scan", test_finished);
     run("a scan call checks 11, 12, 10, 9", test_order_of_scan_calls);
     run("NULL with length 0", test_null);

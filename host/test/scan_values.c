@@ -281,11 +281,13 @@ static number step(const uint64_t *value, number d, uint8_t c)
     return second_half(moved, number_of(value + OPTIONAL, 1));
 }
 
-/* What a call makes of a possible value: the value after it, and the ends. */
-static size_t stepped(uint64_t *value, const uint8_t *piece, size_t length, bool finish, uint32_t *ends)
+/* What a call makes of a possible value: the value after it, and the ends with their raw counts, which go on from the first
+ * byte that was not let through. */
+static size_t stepped(uint64_t *value, const uint8_t *piece, size_t length, bool finish, uint32_t *pairs)
 {
     static uint8_t raw[PIECE_MOST + HELD_MOST], text[PIECE_MOST + HELD_MOST];
-    size_t taken = value[HELD], held, decoded, count = 0, top = value[POSITIONS];
+    static uint32_t raws[PIECE_MOST + HELD_MOST];
+    size_t taken = value[HELD], held, decoded, count = 0, top = value[POSITIONS], from = value[RAW] - value[HELD];
     number d = number_of(value + STATE, 1);
 
     for (size_t i = 0; i < taken; i++)
@@ -293,11 +295,14 @@ static size_t stepped(uint64_t *value, const uint8_t *piece, size_t length, bool
     memcpy(raw + taken, piece, length);
     taken += length;
     held = finish ? 0 : second_held(raw, taken);
-    decoded = second_decoded(raw, taken - held, text);
+    decoded = second_decoded(raw, taken - held, text, raws);
     for (size_t i = 0; i < decoded; i++) {
         d = step(value, d, text[i]);
-        if ((d.limb[top / 32] >> top % 32 & 1) != 0)
-            ends[count++] = (uint32_t)(value[DECODED] + i + 1);
+        if ((d.limb[top / 32] >> top % 32 & 1) != 0) {
+            pairs[2 * count] = (uint32_t)(value[DECODED] + i + 1);
+            pairs[2 * count + 1] = (uint32_t)(from + raws[i]);
+            count++;
+        }
     }
     put_number(value + STATE, d);
     value[FINISHED] = finish;
@@ -412,7 +417,7 @@ static size_t random_piece(random_source *r, const char *letters, uint8_t *piece
 static void by_hand(random_source *r)
 {
     static uint64_t expected[WORDS], *scan;
-    static uint32_t ends[PIECE_MOST + HELD_MOST];
+    static uint32_t pairs[JAZHUPPE_FEED_LIST(PIECE_MOST)];
     static uint8_t piece[PIECE_MOST];
     char letters[JAZHUPPE_POSITIONS_MOST + 1];
 
@@ -421,15 +426,15 @@ static void by_hand(random_source *r)
     for (int call = 0; call < 4; call++) {
         bool finish = call == 3;
         size_t length = finish ? 0 : random_piece(r, letters, piece), list = JAZHUPPE_FEED_LIST(length);
-        size_t count = stepped(expected, piece, length, finish, ends);
+        size_t count = stepped(expected, piece, length, finish, pairs), bytes_written = count * JAZHUPPE_PAIR * sizeof *pairs;
         uint32_t *given = lend(&list_room, list * sizeof *given);
         const uint8_t *bytes = lend_bytes(&text_room, piece, length);
         jazhuppe_answer a = finish ? jazhuppe_finish(scan, WORDS, given, list)
                                    : jazhuppe_feed(scan, WORDS, bytes, length, given, list);
 
         CHECK(answers(a, 0, (uint32_t)count));
-        CHECK(memcmp(given, ends, count * sizeof *ends) == 0);
-        CHECK(untouched_past(&list_room, count * sizeof *ends) && untouched(&text_room));
+        CHECK(memcmp(given, pairs, bytes_written) == 0);
+        CHECK(untouched_past(&list_room, bytes_written) && untouched(&text_room));
         CHECK(memcmp(scan, expected, sizeof expected) == 0);
         CHECK(untouched_past(&scan_room, sizeof expected));
     }
@@ -446,6 +451,59 @@ static void test_by_hand(void)
     }
 }
 
+/* A value with the rule `.` that has taken so many bytes, decoded half as many and holds a tail back. */
+static void held_by_hand(uint64_t *value, uint64_t taken, const char *tail)
+{
+    CHECK(jazhuppe_open((const uint8_t *)".", 1, 0, NO_CODES, value, WORDS).number == 0);
+    value[RAW] = taken;
+    hold(value, tail);
+    value[DECODED] = taken / 2;
+}
+
+/* Feeds the piece, or finishes where there is none: so many pairs, whose ends follow the bytes decoded so far, and these raw
+ * counts. */
+static void gives_raws(const uint64_t *value, const char *piece, uint32_t count, const uint32_t *raws)
+{
+    uint64_t *scan = lend_bytes(&scan_room, value, WORDS * sizeof *scan);
+    size_t length = piece == NULL ? 0 : strlen(piece), list = JAZHUPPE_FEED_LIST(length);
+    const uint8_t *bytes = lend_bytes(&text_room, piece, length);
+    uint32_t *pairs = lend(&list_room, list * sizeof *pairs);
+    jazhuppe_answer a = piece == NULL ? jazhuppe_finish(scan, WORDS, pairs, list)
+                                      : jazhuppe_feed(scan, WORDS, bytes, length, pairs, list);
+
+    about("%llu taken, %s", (unsigned long long)value[RAW], piece == NULL ? "a finish" : piece);
+    CHECK(answers(a, 0, count) && untouched_past(&list_room, count * JAZHUPPE_PAIR * sizeof *pairs));
+    for (uint32_t i = 0; i < count; i++)
+        CHECK(pairs[2 * i] == value[DECODED] + i + 1 && pairs[2 * i + 1] == raws[i]);
+}
+
+/* The first byte that comes out is the first that is held back, wherever the counts stand. */
+static void test_raws_by_hand(void)
+{
+    static const uint64_t taken[] = {62, 100, 1000000, JAZHUPPE_TEXT_MOST - 9};
+
+    for (size_t i = 0; i < sizeof taken / sizeof taken[0]; i++) {
+        uint64_t value[WORDS];
+        uint32_t t = (uint32_t)taken[i];
+
+        held_by_hand(value, t, "&am");
+        gives_raws(value, NULL, 3, (const uint32_t[]){t - 2, t - 1, t});
+        gives_raws(value, "p;", 1, (const uint32_t[]){t + 2});
+        gives_raws(value, "p;b", 2, (const uint32_t[]){t + 2, t + 3});
+        gives_raws(value, "q", 4, (const uint32_t[]){t - 2, t - 1, t, t + 1});
+        gives_raws(value, "&", 3, (const uint32_t[]){t - 2, t - 1, t});
+        gives_raws(value, "&lt;", 4, (const uint32_t[]){t - 2, t - 1, t, t + 4});
+        gives_raws(value, "p", 0, NULL);
+        held_by_hand(value, t, "&#x1F60");
+        gives_raws(value, "0;b", 5, (const uint32_t[]){t + 2, t + 2, t + 2, t + 2, t + 3});
+        held_by_hand(value, t, "&#00000000000000000000000000038");
+        gives_raws(value, ";", 1, (const uint32_t[]){t + 1});
+        held_by_hand(value, t, "");
+        gives_raws(value, "b&#xE9;", 3, (const uint32_t[]){t + 1, t + 7, t + 7});
+        gives_raws(value, NULL, 0, NULL);
+    }
+}
+
 int main(void)
 {
     scan_room = lent_room(2 * WORDS * sizeof(uint64_t));
@@ -457,6 +515,7 @@ int main(void)
     run("11: held bytes that are not such a tail; 12 before them where they are", test_held_bytes);
     run("11: every other length", test_lengths);
     run("11: all zeros, all ones", test_all_alike);
+    run("raw counts of values made by hand", test_raws_by_hand);
     run("5,000 values made by hand step by the formula", test_by_hand);
     return finished("scan_values");
 }

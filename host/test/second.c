@@ -536,13 +536,13 @@ static size_t reference(const uint8_t *s, size_t n, uint32_t *code)
     return 0;
 }
 
-size_t second_decoded(const uint8_t *raw, size_t raw_len, uint8_t *out)
+size_t second_decoded(const uint8_t *raw, size_t raw_len, uint8_t *out, uint32_t *raws)
 {
     size_t at = 0, wrote = 0;
 
     while (at < raw_len) {
         uint32_t code;
-        size_t takes = reference(raw + at, raw_len - at, &code);
+        size_t takes = reference(raw + at, raw_len - at, &code), from = wrote;
 
         if (takes > 0) {
             wrote += put_utf8(code, out + wrote);
@@ -550,6 +550,8 @@ size_t second_decoded(const uint8_t *raw, size_t raw_len, uint8_t *out)
         } else {
             out[wrote++] = raw[at++];
         }
+        for (size_t i = from; raws != NULL && i < wrote; i++)
+            raws[i] = (uint32_t)at;
     }
     return wrote;
 }
@@ -677,6 +679,15 @@ static size_t ends_over(const second_rule *rule, const uint8_t *text, size_t len
 size_t second_ends(const second_rule *rule, const uint8_t *text, size_t text_len, uint32_t *ends)
 {
     return ends_over(rule, text, text_len, 0, ends);
+}
+
+size_t second_pairs(const uint32_t *ends, size_t count, const uint32_t *raws, uint32_t *pairs)
+{
+    for (size_t i = 0; i < count; i++) {
+        pairs[2 * i] = ends[i];
+        pairs[2 * i + 1] = raws[ends[i] - 1];
+    }
+    return count;
 }
 
 size_t second_starts(const second_rule *rule, const uint8_t *text, size_t text_len, uint32_t *starts)
@@ -815,50 +826,51 @@ jazhuppe_prepared second_open(const uint8_t *rule, size_t rule_len, uint32_t fol
     return prepared(&read);
 }
 
-size_t second_text(const second_scan *scan, uint8_t *out)
+size_t second_text(const second_scan *scan, uint8_t *out, uint32_t *raws)
 {
     size_t held = scan->finished ? 0 : second_held(scan->taken, scan->length);
 
-    return second_decoded(scan->taken, scan->length - held, out);
+    return second_decoded(scan->taken, scan->length - held, out, raws);
 }
 
-static uint32_t scan_refusal(const second_scan *scan, size_t piece_len, size_t ends_len)
+static uint32_t scan_refusal(const second_scan *scan, size_t piece_len, size_t pairs_len)
 {
     if (scan->finished)
         return JAZHUPPE_FINISHED;
     if (scan->length + piece_len > JAZHUPPE_TEXT_MOST)
         return JAZHUPPE_TOO_MUCH;
-    return ends_len < JAZHUPPE_FEED_LIST(piece_len) ? JAZHUPPE_TOO_SHORT : 0;
+    return pairs_len < 2 * (piece_len + 31) ? JAZHUPPE_TOO_SHORT : 0;
 }
 
-static jazhuppe_answer scan_call(second_scan *scan, const uint8_t *piece, size_t piece_len, bool finish, uint32_t *ends,
-                                 size_t ends_len)
+static jazhuppe_answer scan_call(second_scan *scan, const uint8_t *piece, size_t piece_len, bool finish, uint32_t *pairs,
+                                 size_t pairs_len)
 {
     uint8_t text[SECOND_PLAN_MOST];
+    uint32_t raws[SECOND_PLAN_MOST], ends[SECOND_PLAN_MOST];
     size_t before, after;
-    uint32_t number = scan_refusal(scan, piece_len, ends_len);
+    uint32_t number = scan_refusal(scan, piece_len, pairs_len);
 
     if (number != 0)
         return answer(number, 0, 0, 0);
     if (scan->length + piece_len > SECOND_PLAN_MOST)
         abort();
-    before = second_text(scan, text);
+    before = second_text(scan, text, NULL);
     if (piece_len > 0)
         memcpy(scan->taken + scan->length, piece, piece_len);
     scan->length += piece_len;
     scan->finished = finish;
-    after = second_text(scan, text);
-    return answer(0, 0, ends_over(&scan->rule, text, after, before, ends), 0);
+    after = second_text(scan, text, raws);
+    return answer(0, 0, second_pairs(ends, ends_over(&scan->rule, text, after, before, ends), raws, pairs), 0);
 }
 
-jazhuppe_answer second_feed(second_scan *scan, const uint8_t *piece, size_t piece_len, uint32_t *ends, size_t ends_len)
+jazhuppe_answer second_feed(second_scan *scan, const uint8_t *piece, size_t piece_len, uint32_t *pairs, size_t pairs_len)
 {
-    return scan_call(scan, piece, piece_len, false, ends, ends_len);
+    return scan_call(scan, piece, piece_len, false, pairs, pairs_len);
 }
 
-jazhuppe_answer second_finish(second_scan *scan, uint32_t *ends, size_t ends_len)
+jazhuppe_answer second_finish(second_scan *scan, uint32_t *pairs, size_t pairs_len)
 {
-    return scan_call(scan, NULL, 0, true, ends, ends_len);
+    return scan_call(scan, NULL, 0, true, pairs, pairs_len);
 }
 
 jazhuppe_answer second_decode(const uint8_t *raw, size_t raw_len, uint8_t *out, size_t out_len)
@@ -867,7 +879,7 @@ jazhuppe_answer second_decode(const uint8_t *raw, size_t raw_len, uint8_t *out, 
 
     if (number != 0)
         return answer(number, 0, 0, 0);
-    return answer(0, 0, second_decoded(raw, raw_len, out), 0);
+    return answer(0, 0, second_decoded(raw, raw_len, out, NULL), 0);
 }
 
 jazhuppe_answer second_search(const uint8_t *rule, size_t rule_len, uint32_t fold, const uint8_t *codes,

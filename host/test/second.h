@@ -64,29 +64,33 @@ bool second_fits(const second_rule *rule, size_t i, uint8_t c);
 /* The bytes at the end that could still grow into a form. */
 size_t second_held(const uint8_t *raw, size_t raw_len);
 
-/* Decodes whole; out has room for raw_len bytes. */
-size_t second_decoded(const uint8_t *raw, size_t raw_len, uint8_t *out);
+/* Decodes whole; out has room for raw_len bytes. And for each of the text's bytes the count of raw bytes up to and including
+ * what gave it, a byte or a whole reference, where raws, which then has as much room, is not NULL. */
+size_t second_decoded(const uint8_t *raw, size_t raw_len, uint8_t *out, uint32_t *raws);
 
-/* What the plain scan has decoded so far; out has room for all bytes taken. */
-size_t second_text(const second_scan *scan, uint8_t *out);
+/* What the plain scan has decoded so far, in the same way; each has room for all bytes taken. */
+size_t second_text(const second_scan *scan, uint8_t *out, uint32_t *raws);
 
 /* For each i up to the count of positions: whether some tail of the text can be cut into shares for the first i. */
 void second_filled(const second_rule *rule, const uint8_t *text, size_t text_len, bool *filled);
 
-/* Of any rule; the lists have room for the text's length. */
+/* Of any rule, without raw counts; the lists have room for the text's length. */
 size_t second_ends(const second_rule *rule, const uint8_t *text, size_t text_len, uint32_t *ends);
 size_t second_starts(const second_rule *rule, const uint8_t *text, size_t text_len, uint32_t *starts);
 
 /* Whether SQL's LIKE accepts the name, case respected, by a pattern in which every \ stands before %, _ or \ . */
 bool second_like(const uint8_t *pattern, size_t pattern_len, const uint8_t *name, size_t name_len);
 
+/* Each of so many ends, and after it its raw count: that of the text's byte there. The pairs' count. */
+size_t second_pairs(const uint32_t *ends, size_t count, const uint32_t *raws, uint32_t *pairs);
+
 jazhuppe_prepared second_prepare(const uint8_t *rule, size_t rule_len, uint32_t fold);
 jazhuppe_text second_rewrite(const uint8_t *rule, size_t rule_len, uint32_t fold, uint8_t *out, size_t out_len);
 jazhuppe_text second_import_like(const uint8_t *pattern, size_t pattern_len, uint8_t *out, size_t out_len);
 jazhuppe_prepared second_open(const uint8_t *rule, size_t rule_len, uint32_t fold, const uint8_t *codes,
                               size_t codes_len, const uint8_t *sets, size_t sets_len, second_scan *scan);
-jazhuppe_answer second_feed(second_scan *scan, const uint8_t *piece, size_t piece_len, uint32_t *ends, size_t ends_len);
-jazhuppe_answer second_finish(second_scan *scan, uint32_t *ends, size_t ends_len);
+jazhuppe_answer second_feed(second_scan *scan, const uint8_t *piece, size_t piece_len, uint32_t *pairs, size_t pairs_len);
+jazhuppe_answer second_finish(second_scan *scan, uint32_t *pairs, size_t pairs_len);
 jazhuppe_answer second_decode(const uint8_t *raw, size_t raw_len, uint8_t *out, size_t out_len);
 jazhuppe_answer second_search(const uint8_t *rule, size_t rule_len, uint32_t fold, const uint8_t *codes,
                               size_t codes_len, const uint8_t *sets, size_t sets_len, const uint8_t *text,

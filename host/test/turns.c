@@ -238,7 +238,7 @@ typedef struct {
     unsigned turn;
 } piece;
 
-/* A call that was made on a scan, and what came of it; its ends stand in the feed's list. */
+/* A call that was made on a scan, and what came of it; its ends stand in the feed's list, pair after pair. */
 typedef struct {
     bool finish;
     size_t at, length, list;
@@ -257,7 +257,7 @@ typedef struct {
     size_t accepted, taken;
     call calls[EVENTS_MOST + TURNS_MOST];
     size_t calls_count;
-    uint32_t ends[PLAN_MOST];
+    uint32_t ends[JAZHUPPE_PAIR * PLAN_MOST];
     size_t ends_count;
 } feed;
 
@@ -311,6 +311,12 @@ static void hand_on(uint32_t waiting, uint32_t last)
 
 /* ---- calls on a scan */
 
+/* The bytes of so many pairs. */
+static size_t pair_bytes(size_t count)
+{
+    return count * JAZHUPPE_PAIR * sizeof(uint32_t);
+}
+
 /* The call's ends then stand at the beginning of the lent list. */
 static jazhuppe_answer made(const call *c, const feed *f, uint64_t *scan)
 {
@@ -319,7 +325,8 @@ static jazhuppe_answer made(const call *c, const feed *f, uint64_t *scan)
     jazhuppe_answer a = c->finish ? jazhuppe_finish(scan, WORDS, ends, c->list)
                                   : jazhuppe_feed(scan, WORDS, bytes, c->length, ends, c->list);
 
-    hold(a.count <= c->list && untouched_past(&list_room, a.count * sizeof *ends), "what stands past the ends");
+    hold(pair_bytes(a.count) <= c->list * sizeof *ends && untouched_past(&list_room, pair_bytes(a.count)),
+         "what stands past the ends");
     hold(untouched(&text_room), "the piece");
     return a;
 }
@@ -354,7 +361,7 @@ static void make_call(feed *f, bool finish, size_t at, size_t length)
     hold_scans(f, c.answer.number != 0);
     lent_anew(&f->room);
     hold(f->ends_count + c.answer.count <= PLAN_MOST, "how many ends there are");
-    memcpy(f->ends + f->ends_count, list_room.slice, c.answer.count * sizeof *f->ends);
+    memcpy(f->ends + JAZHUPPE_PAIR * f->ends_count, list_room.slice, pair_bytes(c.answer.count));
     f->ends_count += c.answer.count;
     f->calls[f->calls_count++] = c;
     count_call(f, &c);
@@ -479,7 +486,8 @@ static void try_events(void)
 
 static bool same_call(const feed *f, const call *c, jazhuppe_answer a, const void *ends)
 {
-    return memcmp(&a, &c->answer, sizeof a) == 0 && memcmp(ends, f->ends + c->ends_at, a.count * sizeof *f->ends) == 0;
+    return memcmp(&a, &c->answer, sizeof a) == 0 &&
+           memcmp(ends, f->ends + JAZHUPPE_PAIR * c->ends_at, pair_bytes(a.count)) == 0;
 }
 
 /* The pieces are those of the accepted offers, in their order, up to the one that waits. */
@@ -502,7 +510,7 @@ static void hold_order(const feed *f)
 /* The feed's calls, in order, on a scan of its own; and those of a small plan by the plain scan. */
 static void hold_alone(feed *f)
 {
-    static uint32_t ends[SECOND_PLAN_MOST];
+    static uint32_t ends[JAZHUPPE_PAIR * SECOND_PLAN_MOST];
 
     for (size_t i = 0; i < f->calls_count; i++) {
         const call *c = &f->calls[i];

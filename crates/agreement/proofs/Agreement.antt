@@ -1,6 +1,6 @@
 -- DEMAND 3, one theorem, `agreement`: for an accepted rule, fold flag and list of codes, and any list of feeds and finishes as they were made. About the very contracts of `open`,
 -- `feed`, `finish` and `search`. Assumes nothing.
-use mathlib.Core.Path.{_≡_, refl, sym, ap, _∙_}
+use mathlib.Core.Path.{_≡_, refl, sym, ap, subst, _∙_}
 use mathlib.Core.Bool.{Bool, true, cond}
 use mathlib.Core.List.{List, [], _∷_}
 use Prim.Native.Nat.{ℕ, zero, suc, _+_, _≤_}
@@ -13,13 +13,16 @@ use Rattle.model.specs.RuleText.{foldFlag, positions}
 use Rattle.model.specs.NumberedAnswers.{textLimit, Parsed, positionsBy, wholeRefusal, overwrite}
 use Rattle.model.specs.Codes.{codesOf, fitting, smudged, parseWith}
 use Rattle.model.specs.References.{formLimit}
+use Rattle.model.specs.RawPlaces.{Entry, rawPlaces, placeIn, placed, endsOf, rawsOf, WeaklyRising}
 use Rattle.model.specs.PlainScan.{Call, feed, finish, Kept, refusal, after, plainScan, nothingKept, keptAfter}
 use Rattle.model.specs.WindowSearch.{windows}
 use Rattle.model.proofs.Fitting.{SmudgedOk, smudged-ok, smudged-shift-largest}
 use Rattle.model.proofs.Truth.{branch}
 use Rattle.model.proofs.Decoding.{decode-length}
 use Rattle.model.proofs.Decided as Decided
-use Rattle.model.proofs.FinishedPlan.{plan-ends}
+use Rattle.model.proofs.FinishedPlan.{plan-entries, raws-within}
+use Rattle.model.proofs.Places.{placed-ends}
+use Rattle.model.proofs.RawCuts.{raw-cut}
 use Rattle.model.proofs.Windows.{shift-is, windows-are, no-start-passed}
 use Rattle.answers.specs.declared.Answer.{Answer}
 use Rattle.answers.specs.declared.Opened.{Opened}
@@ -28,8 +31,8 @@ use Rattle.scan_open.specs.Opening.{OpenIs}
 use Rattle.scan.specs.Calls.{Bytes}
 use Rattle.scan.proofs.PlainScan.{OpenedWith, opened-with}
 use Rattle.text_search.specs.Searching.{searchAnswer, searchList, SearchIs}
-use Rattle.agreement.specs.Agreement.{Made, HandedOn, callsOf, AllAgree, reportedBy, Finished, planOf, Agreement}
-use Rattle.agreement.proofs.MadeCalls.{made-is-plain, reported-ends, finished-is}
+use Rattle.agreement.specs.Agreement.{Made, HandedOn, callsOf, AllAgree, reportedBy, Finished, takenBy, planOf, Agreement}
+use Rattle.agreement.proofs.MadeCalls.{made-is-plain, reported-entries, finished-is}
 
 -- ---- a finished plan is never over the limit, so that its search is not refused by 10
 
@@ -85,11 +88,19 @@ module _ (flag : ℕ) (rule codes sets : List ℕ) (bytes : Bytes rule) (code-by
     answers : (cs : List Made) → HandedOn s cs → AllAgree cs (plainScan flag rule codes sets (callsOf cs))
     answers = made-is-plain flag rule codes sets bytes code-bytes s₀ o s opens ok
 
-    reports : (cs : List Made) → HandedOn s cs → Finished cs → reportedBy cs ≡ ends ps (planOf cs)
+    reports : (cs : List Made) → HandedOn s cs → Finished cs → reportedBy cs ≡ placed (placeIn 0 (rawPlaces formLimit (takenBy cs))) (ends ps (planOf cs))
     reports cs m f =
         let a = answers cs m in
-        reported-ends cs (plainScan flag rule codes sets (callsOf cs)) a
-        ∙ plan-ends flag rule codes sets (opened .elements) bytes (opened .parses) (callsOf cs) (finished-is formLimit ps cs nothingKept a f)
+        reported-entries cs (plainScan flag rule codes sets (callsOf cs)) a
+        ∙ plan-entries flag rule codes sets (opened .elements) bytes (opened .parses) (callsOf cs) (finished-is formLimit ps cs nothingKept a f)
+
+    decoded-ends : (cs : List Made) → HandedOn s cs → Finished cs → endsOf (reportedBy cs) ≡ ends ps (planOf cs)
+    decoded-ends cs m f = ap endsOf (reports cs m f) ∙ placed-ends (placeIn 0 (rawPlaces formLimit (takenBy cs))) (ends ps (planOf cs))
+
+    raws : (cs : List Made) → HandedOn s cs → WeaklyRising 0 (length (takenBy cs)) (rawsOf (reportedBy cs))
+    raws cs m =
+        subst (λ (l : List Entry). WeaklyRising 0 (length (takenBy cs)) (rawsOf l)) (sym (reported-entries cs (plainScan flag rule codes sets (callsOf cs)) (answers cs m)))
+        (raws-within formLimit ps (callsOf cs))
 
   pub agreement : (s₀ : List ℕ) (o : Opened) (s : List ℕ) → OpenIs flag rule codes sets s₀ o s → o .number ≡ 0 → Agreement flag rule codes sets s (smudged (foldFlag flag) rule codes sets)
   agreement s₀ o s opens ok =
@@ -99,6 +110,8 @@ module _ (flag : ℕ) (rule codes sets : List ℕ) (bytes : Bytes rule) (code-by
         reports = reports s₀ o s opens ok;
         an-end = Decided.ends-are ps;
         ends-rise = Decided.ends-rise ps;
+        raws-rise = raws s₀ o s opens ok;
+        raw-cuts = λ plan e. raw-cut formLimit plan e;
         search = λ cs list r list′ x l. gives s₀ o s opens ok (planOf cs) list (plan-small cs) l r list′ x;
         a-start = Decided.starts-are ps;
         starts-rise = Decided.starts-rise ps;
@@ -106,7 +119,7 @@ module _ (flag : ℕ) (rule codes sets : List ℕ) (bytes : Bytes rule) (code-by
         shifts = shift-is ps (k .inhabited) (k .not-empty);
         moves = no-start-passed ps (k .inhabited) (k .not-empty);
         largest-move = smudged-shift-largest (foldFlag flag) rule codes sets (opened s₀ o s opens ok .elements) bytes (opened s₀ o s opens ok .parses) code-bytes;
-        alike = λ t₀ q t x z cs ds m n f g e. reports s₀ o s opens ok cs m f ∙ ap (ends ps) e ∙ sym (reports t₀ q t x z ds n g);
+        alike = λ t₀ q t x z cs ds m n f g e. decoded-ends s₀ o s opens ok cs m f ∙ ap (ends ps) e ∙ sym (decoded-ends t₀ q t x z ds n g);
         alike-search = λ cs ds e list r r₂ l l₂ x y. (
           x .answers ∙ ap (λ (t : List ℕ). searchAnswer flag codes sets t (length list) (parseWith (foldFlag flag) rule codes sets)) e ∙ sym (y .answers),
           x .lists ∙ ap (λ (t : List ℕ). searchList flag codes sets t list (parseWith (foldFlag flag) rule codes sets)) e ∙ sym (y .lists),

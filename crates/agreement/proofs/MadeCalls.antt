@@ -1,9 +1,9 @@
 -- Calls as they were made, each handed what the one before it left: number, count and as many entries of the lent list are the plain scan's. Assumes nothing.
-use mathlib.Core.Path.{_≡_, refl, ap, ap₂, subst, _∙_}
+use mathlib.Core.Path.{_≡_, refl, sym, ap, ap₂, subst, _∙_}
 use mathlib.Core.Bool.{Bool, true, false, cond}
 use mathlib.Core.Logic.{inl, inr}
 use mathlib.Core.List.{List, [], _∷_, _++_}
-use Prim.Native.Nat.{ℕ, zero, suc}
+use Prim.Native.Nat.{ℕ, zero, suc, _*_}
 use lib.Dec.{eqb}
 use native.Mathlib.Omega.{arith}
 use borrow.Author.Tests.{ne-eqb}
@@ -12,8 +12,10 @@ use lib.Seq.{take-append-seam}
 use Rattle.model.specs.NumberedAnswers.{overwrite}
 use Rattle.model.specs.Occurrence.{Position}
 use Rattle.model.specs.RefusalNumbers.{alreadyFinished}
+use Rattle.model.specs.RawPlaces.{Entry, pairNumbers, flat, pairsOf}
+use Rattle.model.proofs.Places.{flat-length, flat-pairs}
 use Rattle.model.specs.PlainScan as Plain
-use Rattle.model.specs.PlainScan.{Call, pieceOf, listOf, refused, reported, Kept, textOf, refusal, refusalFor, newEnds, scanFrom, plainScan, reportedEnds, keptAfter}
+use Rattle.model.specs.PlainScan.{Call, pieceOf, listOf, refused, reported, Kept, refusal, refusalFor, newEntries, scanFrom, plainScan, reportedEntries, keptAfter}
 use Rattle.answers.specs.declared.Answer.{Answer}
 use Rattle.answers.specs.Answers.{refusing, counting}
 use Rattle.answers.specs.declared.Opened.{Opened}
@@ -21,7 +23,7 @@ use Rattle.scan_open.specs.Opening.{OpenIs}
 use Rattle.scan.specs.Calls.{numberOf, after, CallIs, runFrom, Bytes, PiecesAreBytes}
 use Rattle.scan.specs.Calls as Calls
 use Rattle.scan.proofs.PlainScan.{scan-is-plain}
-use Rattle.agreement.specs.Agreement.{Request, feeding, finishing, Made, MetBy, HandedOn, callBy, callsOf, endsOf, AllAgree, reportedBy, Finishes, Finished}
+use Rattle.agreement.specs.Agreement.{Request, feeding, finishing, Made, MetBy, HandedOn, callBy, callsOf, entriesOf, AllAgree, reportedBy, Finishes, Finished}
 
 -- ---- from the contracts to the definitions that they cite
 
@@ -47,20 +49,22 @@ agree (c ∷ cs) s m = go (numberOf s call) refl (agree cs)
 
     go : (n : ℕ) → numberOf s call ≡ n → ((s : List ℕ) → HandedOn s cs → AllAgree cs (runFrom s (callsOf cs))) → AllAgree (c ∷ cs) (runFrom s (call ∷ callsOf cs))
     go zero q ih =
-        let es = Calls.endsOf s call in
+        let es = Calls.entriesOf s call in
         let x : CallIs s call (c .lent) (c .answer) (c .value) (c .list) = met-is (c .request) s (c .lent) (c .answer) (c .value) (c .list) (m .0) in
         let t : eqb (numberOf s call) 0 ≡ true = ap (λ (n : ℕ). eqb n 0) q in
         let a : c .answer ≡ counting (length es) 0 = x .answers ∙ ap (λ (b : Bool). cond b (counting (length es) 0) (refusing (numberOf s call) 0)) t in
         let v : c .value ≡ after s call = x .leaves ∙ ap (λ (b : Bool). cond b (after s call) s) t in
-        let l : c .list ≡ overwrite (c .lent) es = x .lists ∙ ap (λ (b : Bool). cond b (overwrite (c .lent) es) (c .lent)) t in
-        let k : endsOf c ≡ es =
-        ap₂ (λ (n : ℕ) (y : List ℕ). take n y) (ap (λ (r : Answer). r .count) a) l ∙ take-append-seam es (drop (length es) (c .lent)) in
+        let l : c .list ≡ overwrite (c .lent) (flat es) = x .lists ∙ ap (λ (b : Bool). cond b (overwrite (c .lent) (flat es)) (c .lent)) t in
+        let k : entriesOf c ≡ es =
+        ap₂ (λ (n : ℕ) (y : List ℕ). pairsOf (take n y)) (ap (λ (r : Answer). pairNumbers * r .count) a ∙ sym (flat-length es)) l
+        ∙ ap pairsOf (take-append-seam (flat es) (drop (length (flat es)) (c .lent)))
+        ∙ flat-pairs es in
         rw (q, runFrom) ((a, k), subst (λ (s : List ℕ). AllAgree cs (runFrom s (callsOf cs))) v (ih (c .value) (m .1)))
     go (suc n) q ih =
         let x : CallIs s call (c .lent) (c .answer) (c .value) (c .list) = met-is (c .request) s (c .lent) (c .answer) (c .value) (c .list) (m .0) in
         let t : eqb (numberOf s call) 0 ≡ false = ne-eqb (numberOf s call) 0 (λ z. omega arith) in
         let a : c .answer ≡ refusing (suc n) 0 =
-        x .answers ∙ ap (λ (b : Bool). cond b (counting (length (Calls.endsOf s call)) 0) (refusing (numberOf s call) 0)) t ∙ ap (λ (k : ℕ). refusing k 0) q in
+        x .answers ∙ ap (λ (b : Bool). cond b (counting (length (Calls.entriesOf s call)) 0) (refusing (numberOf s call) 0)) t ∙ ap (λ (k : ℕ). refusing k 0) q in
         let v : c .value ≡ s = x .leaves ∙ ap (λ (b : Bool). cond b (after s call) s) t in
         rw (q, runFrom) (a, subst (λ (s : List ℕ). AllAgree cs (runFrom s (callsOf cs))) v (ih (c .value) (m .1)))
 
@@ -70,21 +74,21 @@ pub made-is-plain : (flag : ℕ) (rule codes sets : List ℕ) → Bytes rule →
 made-is-plain flag rule codes sets bytes code-bytes s₀ o s opens ok cs m =
     subst (AllAgree cs) (scan-is-plain flag rule codes sets bytes code-bytes (callsOf cs) (pieces-are-bytes cs s m) s₀ o s opens ok) (agree cs s m)
 
--- ---- the ends
+-- ---- the pairs
 
-pub reported-ends : (cs : List Made) (rest : List Plain.Answer) → AllAgree cs rest → reportedBy cs ≡ reportedEnds rest
-reported-ends [] rest x = none rest x
+pub reported-entries : (cs : List Made) (rest : List Plain.Answer) → AllAgree cs rest → reportedBy cs ≡ reportedEntries rest
+reported-entries [] rest x = none rest x
   where
-    none : (rest : List Plain.Answer) → AllAgree [] rest → [] ≡ reportedEnds rest
+    none : (rest : List Plain.Answer) → AllAgree [] rest → [] ≡ reportedEntries rest
     none [] x = refl
     none (a ∷ rest) x = absurd x
-reported-ends (c ∷ cs) rest x = go rest x (reported-ends cs)
+reported-entries (c ∷ cs) rest x = go rest x (reported-entries cs)
   where
-    go : (rest : List Plain.Answer) → AllAgree (c ∷ cs) rest → ((rest : List Plain.Answer) → AllAgree cs rest → reportedBy cs ≡ reportedEnds rest)
-        → reportedBy (c ∷ cs) ≡ reportedEnds rest
+    go : (rest : List Plain.Answer) → AllAgree (c ∷ cs) rest → ((rest : List Plain.Answer) → AllAgree cs rest → reportedBy cs ≡ reportedEntries rest)
+        → reportedBy (c ∷ cs) ≡ reportedEntries rest
     go [] x ih = absurd x
-    go (refused n ∷ rest) x ih = ap (λ (k : ℕ). take k (c .list) ++ reportedBy cs) (ap (λ (r : Answer). r .count) (x .0)) ∙ ih rest (x .1)
-    go (reported es ∷ rest) x ih = ap₂ (λ (a b : List ℕ). a ++ b) (x .0 .1) (ih rest (x .1))
+    go (refused n ∷ rest) x ih = ap (λ (k : ℕ). pairsOf (take (pairNumbers * k) (c .list)) ++ reportedBy cs) (ap (λ (r : Answer). r .count) (x .0)) ∙ ih rest (x .1)
+    go (reported es ∷ rest) x ih = ap₂ (λ (a b : List Entry). a ++ b) (x .0 .1) (ih rest (x .1))
 
 -- ---- a finish that answered 0 is the plain scan's accepted finish
 
@@ -119,7 +123,7 @@ finished-is limit ps (c ∷ cs) k x f = go (refusal limit (k .finished) (length 
         → keptAfter limit k (call ∷ callsOf cs) .finished ≡ true
     go zero q (inl y) ih = rw (q, keptAfter) (finish-sets limit (c .request) (c .answer .number) (length (c .lent)) (callsOf cs) k y)
     go zero q (inr y) ih =
-        let z : AllAgree (c ∷ cs) (reported (newEnds ps (textOf limit k) (textOf limit (Plain.after call k))) ∷ scanFrom limit ps (Plain.after call k) (callsOf cs)) = rw (q, scanFrom) at x in
+        let z : AllAgree (c ∷ cs) (reported (newEntries limit ps k call) ∷ scanFrom limit ps (Plain.after call k) (callsOf cs)) = rw (q, scanFrom) at x in
         rw (q, keptAfter) (ih (Plain.after call k) (z .1) y)
     go (suc n) q y ih =
         let z : AllAgree (c ∷ cs) (refused (suc n) ∷ scanFrom limit ps k (callsOf cs)) = rw (q, scanFrom) at x in

@@ -3,11 +3,12 @@
 use mathlib.Core.Path.{_≡_}
 use mathlib.Core.Logic.{_⊎_, _↔_}
 use mathlib.Core.List.{List, [], _∷_, _++_, List·Memᴰ}
-use Prim.Native.Nat.{ℕ, _+_, _≤_, _<_}
+use Prim.Native.Nat.{ℕ, _+_, _*_, _≤_, _<_}
 use lib.ListN.{length, take}
 use Rattle.model.specs.Occurrence.{Position, StartsAt, EndsAt, shortest, ends, starts, RisingFrom}
 use Rattle.model.specs.NumberedAnswers.{overwrite}
 use Rattle.model.specs.References.{formLimit, decode}
+use Rattle.model.specs.RawPlaces.{rawPlaces, Entry, placeIn, placed, endsOf, rawsOf, pairNumbers, pairsOf, WeaklyRising, CutAt}
 use Rattle.model.specs.PlainScan as Plain
 use Rattle.model.specs.PlainScan.{Call, feed, finish, refused, reported, plainScan, nothingKept, keptAfter}
 use Rattle.model.specs.WindowSearch.{windowAt, ShiftIs, shift, WindowsAre, windows, LargestMove}
@@ -55,14 +56,14 @@ abbrev pub callsOf : List Made → List Call
 callsOf [] = []
 callsOf (c ∷ cs) = callBy (c .request) (length (c .lent)) ∷ callsOf cs
 
--- "as many entries of its lent list"
-abbrev pub endsOf : Made → List ℕ
-endsOf c = take (c .answer .count) (c .list)
+-- "as many entries of its lent list", each of two numbers
+abbrev pub entriesOf : Made → List Entry
+entriesOf c = pairsOf (take (pairNumbers * c .answer .count) (c .list))
 
--- "A call's refusal number, its count of ends and as many entries of its lent list equal the plain scan's."
+-- "A call's refusal number, its count of pairs and as many entries of its lent list equal the plain scan's."
 abbrev pub Agrees : Made → Plain.Answer → Type 0
 Agrees c (refused n) = c .answer ≡ refusing n 0
-Agrees c (reported es) = (c .answer ≡ counting (length es) 0) × (endsOf c ≡ es)
+Agrees c (reported es) = (c .answer ≡ counting (length es) 0) × (entriesOf c ≡ es)
 
 abbrev pub AllAgree : List Made → List Plain.Answer → Type 0
 AllAgree [] [] = Unit {0}
@@ -70,10 +71,10 @@ AllAgree [] (a ∷ rest) = ⊥
 AllAgree (c ∷ cs) [] = ⊥
 AllAgree (c ∷ cs) (a ∷ rest) = Agrees c a × AllAgree cs rest
 
--- "The ends reported are those of all the calls in order."
-abbrev pub reportedBy : List Made → List ℕ
+-- "The ends reported are those of all the calls in order", pairs.
+abbrev pub reportedBy : List Made → List Entry
 reportedBy [] = []
-reportedBy (c ∷ cs) = endsOf c ++ reportedBy cs
+reportedBy (c ∷ cs) = entriesOf c ++ reportedBy cs
 
 -- "the accepted finish": a finish that answered 0
 abbrev pub Finishes : Request → (number : ℕ) → Type 0
@@ -84,9 +85,12 @@ abbrev pub Finished : List Made → Type 0
 Finished [] = ⊥
 Finished (c ∷ cs) = Finishes (c .request) (c .answer .number) ⊎ Finished cs
 
--- "With the accepted finish, P is the finished plan": what it decodes to.
+-- "P, the bytes taken"; "With the accepted finish, P is the finished plan": what it decodes to.
+abbrev pub takenBy : List Made → List ℕ
+takenBy cs = keptAfter formLimit nothingKept (callsOf cs) .taken
+
 abbrev pub planOf : List Made → List ℕ
-planOf cs = decode formLimit (keptAfter formLimit nothingKept (callsOf cs) .taken)
+planOf cs = decode formLimit (takenBy cs)
 
 -- ---- the claim
 
@@ -95,10 +99,15 @@ planOf cs = decode formLimit (keptAfter formLimit nothingKept (callsOf cs) .take
 pub record Agreement (flag : ℕ) (rule codes sets s : List ℕ) (ps : List Position) : Type 0 where
   -- "over every list of feeds and finishes, refused ones included, wherever pieces cut the plan, every answer equals the plain scan's"
   pub answers : (cs : List Made) → HandedOn s cs → AllAgree cs (plainScan flag rule codes sets (callsOf cs))
-  -- "the scan reports exactly the ends .. of occurrences in the decoded plan", once each, rising
-  pub reports : (cs : List Made) → HandedOn s cs → Finished cs → reportedBy cs ≡ ends ps (planOf cs)
+  -- "the scan reports exactly the ends .. of occurrences in the decoded plan", once each, rising, each "with the raw count just past the byte or the whole reference that
+  -- gave it"
+  pub reports : (cs : List Made) → HandedOn s cs → Finished cs → reportedBy cs ≡ placed (placeIn 0 (rawPlaces formLimit (takenBy cs))) (ends ps (planOf cs))
   pub an-end : (text : List ℕ) (e : ℕ) → List·Memᴰ e (ends ps text) ↔ EndsAt ps text e
   pub ends-rise : (text : List ℕ) → RisingFrom 0 (ends ps text)
+  -- raw counts rise weakly, and lie within the bytes taken, finished or not
+  pub raws-rise : (cs : List Made) → HandedOn s cs → WeaklyRising 0 (length (takenBy cs)) (rawsOf (reportedBy cs))
+  -- and where the plan is cut, the decoded plan is: after the end's last byte, or after the other bytes of the reference that gave it
+  pub raw-cuts : (plan : List ℕ) (e : ℕ) → 1 ≤ e → e ≤ length (decode formLimit plan) → CutAt formLimit plan e (placeIn 0 (rawPlaces formLimit plan) e)
   -- "starts, windows and their count are exactly the defined ones": a search of the finished plan, with a list that is long enough
   pub search : (cs : List Made) → (list : List ℕ) (r : Answer) (list′ : List ℕ) → SearchIs flag rule codes sets (planOf cs) list r list′ → length (planOf cs) ≤ length list
       → (r ≡ counting (length (starts ps (planOf cs))) (length (windows ps (planOf cs))))
@@ -114,8 +123,9 @@ pub record Agreement (flag : ℕ) (rule codes sets s : List ℕ) (ps : List Posi
   -- "for every window and its shift j, the text limit aside, some bytes after the window would give an occurrence starting j bytes past the window's start. With the
   -- base promise, j is then the largest move that can be made on the window's bytes alone."
   pub largest-move : (window : List ℕ) → Bytes window → length window ≡ shortest ps → LargestMove ps window (shift ps window)
-  -- "plans that decode alike get the same answers": from any other accepted opening of the rule with these codes, however spelt and cut
+  -- "plans that decode alike get the same answers", raw counts aside: "Two spellings of one plan still agree in decoded ends; their raw counts may differ." From any other accepted
+  -- opening of the rule with these codes, however spelt and cut
   pub alike : (t₀ : List ℕ) (o : Opened) (t : List ℕ) → OpenIs flag rule codes sets t₀ o t → o .number ≡ 0 → (cs ds : List Made) → HandedOn s cs → HandedOn t ds
-      → Finished cs → Finished ds → planOf cs ≡ planOf ds → reportedBy cs ≡ reportedBy ds
+      → Finished cs → Finished ds → planOf cs ≡ planOf ds → endsOf (reportedBy cs) ≡ endsOf (reportedBy ds)
   pub alike-search : (cs ds : List Made) → planOf cs ≡ planOf ds → (list : List ℕ) (r r₂ : Answer) (l l₂ : List ℕ)
       → SearchIs flag rule codes sets (planOf cs) list r l → SearchIs flag rule codes sets (planOf ds) list r₂ l₂ → (r ≡ r₂) × (l ≡ l₂)

@@ -27,3 +27,6 @@ pub const FEEDS: u32 = 8;
 
 // "At the opening feed 7 counts as last served, and a last-served number above 7 reads as 7."
 pub const TOP_FEED: u32 = FEEDS - 1;
+
+// "Feed and finish lists count pairs", of two numbers each: the decoded end and the raw count.
+pub const PAIR: usize = 2;

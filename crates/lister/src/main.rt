@@ -10,11 +10,13 @@ const RULE_ROOM: usize = limits::RULE_LIMIT + 1;
 // "16,384 bytes at most"
 const PLAN_LIMIT: usize = 16384;
 
-// Bytes that one feed is given, and those with the bytes that may have been held before them: the
-// list that a feed needs.
+// Bytes that one feed is given, and the list that it needs: a pair for each of them, and for each of the bytes
+// that may have been held before them.
 const PIECE: usize = 4096;
 
-const PIECE_LIST: usize = PIECE + limits::HELD_MOST;
+const PIECE_LIST: usize = limits::PAIR * (PIECE + limits::HELD_MOST);
+
+const FINISH_LIST: usize = limits::PAIR * limits::HELD_MOST;
 
 // What was taken so far: whether the first newline has come, how many bytes of the rule and of the
 // plan are kept, and whether the plan had more than may be kept.
@@ -118,10 +120,21 @@ fn reported(a: Answer, list: &[u32]) {
     numbers(&list[0..n]);
 }
 
+// The decoded ends of the pairs that an answer reports.
+fn reported_ends(a: Answer, list: &[u32]) {
+    let n = at_most(a.count as usize, list.len() / limits::PAIR);
+    let mut i = 0;
+    while i < n {
+        text(b" ");
+        number(list[limits::PAIR * i]);
+        i += 1;
+    }
+}
+
 fn feed_piece(scan: &mut [u64], piece: &[u8]) {
     let mut ends = [0u32; PIECE_LIST];
     let a = jazhuppe::exports::jazhuppe_feed(scan, piece, &mut ends);
-    reported(a, &ends);
+    reported_ends(a, &ends);
 }
 
 fn feed_pieces(scan: &mut [u64], plan: &[u8]) {
@@ -141,9 +154,9 @@ fn list_ends(rule: &[u8], plan: &[u8]) {
     jazhuppe::exports::jazhuppe_open(rule, 0, b"", b"", &mut scan);
     text(b"ends");
     feed_pieces(&mut scan, plan);
-    let mut ends = [0u32; limits::HELD_MOST];
+    let mut ends = [0u32; FINISH_LIST];
     let a = jazhuppe::exports::jazhuppe_finish(&mut scan, &mut ends);
-    reported(a, &ends);
+    reported_ends(a, &ends);
     text(b"\n");
 }
 

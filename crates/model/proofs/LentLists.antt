@@ -1,11 +1,11 @@
 -- Stores into a lent list: one run after another, stores into a part of it, and what they make of the whole. Assumes nothing.
-use mathlib.Core.Path.{_≡_, sym, ap, _∙_}
+use mathlib.Core.Path.{_≡_, sym, ap, ap₂, _∙_}
 use mathlib.Core.List.{List, [], _∷_, _++_, append-assoc, append-nil}
 use Prim.Native.Nat.{ℕ, suc, _+_, _-_, _≤_}
 use native.Mathlib.Nat.{add-zero, add-suc, suc-add, zero-add}
 use native.Mathlib.Omega.{arith}
 use lib.ListN.{length, set, take, drop, length-append, length-drop, take-append-drop, drop-of-length-le}
-use lib.Seq.{sets, sets-eq, length-sets, drop-drop, drop-append-le, take-at, length-take-le}
+use lib.Seq.{sets, sets-eq, length-sets, drop-drop, drop-append-le, drop-append-add, take-at, length-take-le}
 use borrow.Rule.Slice.PartMut.{putMid, midOf}
 use Rattle.model.specs.NumberedAnswers.{overwrite}
 
@@ -53,6 +53,20 @@ sets-kept l a k vs h v =
     ∙ ap (λ (y : List ℕ). take a l ++ (w ++ y)) (ap (λ (j : ℕ). drop (a + j) l) n ∙ sym (drop-drop k a l))
     ∙ ap (putMid a k l) (sym e)
     ∙ sets-mid l a k vs h v
+
+-- stores from the front over shorter ones
+pub sets-over : (l xs ys : List ℕ) → length xs ≤ length ys → length ys ≤ length l → sets (sets l 0 xs) 0 ys ≡ sets l 0 ys
+sets-over l xs ys h v =
+    let n : length (sets l 0 xs) ≡ length l = length-sets l 0 xs in
+    let k : ℕ = length ys - length xs in
+    let e : 0 + length ys ≡ length xs + k = omega arith in
+    sets-eq ys (sets l 0 xs) 0 (omega arith)
+    ∙ ap (λ (x : List ℕ). ys ++ x)
+    (ap₂ (λ (i : ℕ) (x : List ℕ). drop i x) e (sets-eq xs l 0 (omega arith))
+    ∙ drop-append-add xs (drop (0 + length xs) l) k
+    ∙ drop-drop k (0 + length xs) l
+    ∙ (let j : 0 + length xs + k ≡ 0 + length ys = omega arith in ap (λ (i : ℕ). drop i l) j))
+    ∙ sym (sets-eq ys l 0 (omega arith))
 
 -- the front of a list after stores from `at` on
 pub front-sets : (l : List ℕ) (at : ℕ) (vs : List ℕ) → at + length vs ≤ length l → take (at + length vs) (sets l at vs) ≡ take at l ++ vs

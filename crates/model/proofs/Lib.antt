@@ -16,6 +16,8 @@ pub mod Forms
 pub mod Borders
 pub mod Decoding
 pub mod Cuts
+pub mod Places
+pub mod RawCuts
 pub mod Scans
 pub mod FinishedPlan
 pub mod LentLists

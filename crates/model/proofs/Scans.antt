@@ -1,19 +1,22 @@
--- The plain scan over a whole list of calls: a scanner that keeps the held tail, a state and counts, and no text, answers as it does; and once a finish is
--- accepted, the ends of all the calls in order are those of the decoded plan. For every length limit of a form. Assumes nothing.
+-- The plain scan over a whole list of calls: a scanner that keeps the held tail, a state and counts, and no text, answers as it does; and the pairs of all the calls in
+-- order are those of the text so far, once a finish is accepted those of the decoded plan. For every length limit of a form. Assumes nothing.
 use mathlib.Core.Path.{_≡_, refl, sym, ap, ap₂, subst, _∙_}
 use mathlib.Core.Bool.{Bool, true, false, cond, _&&_, true≢false}
 use mathlib.Core.List.{List, [], _∷_, _++_, append-assoc, append-nil}
 use Prim.Native.Nat.{ℕ, zero, suc, _+_, _-_, _≤_, _<_}
+use native.Mathlib.Nat.{zero-add}
 use native.Mathlib.Omega.{arith}
 use borrow.Author.Tests.{le-leb}
 use lib.Dec.{leb, T-not}
 use lib.ListN.{length, drop, length-append}
 use lib.Seq.{take-append-le}
 use Rattle.model.specs.Occurrence.{Position, stretch, anyFrom, consIf, allFrom, isOccurrence, isEnd}
-use Rattle.model.specs.References.{decode, heldTail, letOut}
-use Rattle.model.specs.PlainScan.{Call, feed, finish, Answer, refused, reported, Kept, nothingKept, textOf, pieceOf, refusal, after, newEnds, scanFrom, reportedEnds, keptAfter}
+use Rattle.model.specs.References.{Token, byteTokens, tokensFrom, taken, joined, decode, heldTail, withoutTail, outTokens}
+use Rattle.model.specs.RawPlaces.{Entry, placesBy, placed, placeIn, entriesBy, rawPlaces}
+use Rattle.model.specs.PlainScan.{Call, feed, finish, Answer, refused, reported, Kept, nothingKept, readOf, textOf, pieceOf, refusal, after, newEnds, newEntries, scanFrom, reportedEntries, keptAfter}
 use Rattle.model.proofs.Truth.{branch, T-false}
-use Rattle.model.proofs.Decoding.{held-cut, text-cut, finish-text}
+use Rattle.model.proofs.Decoding.{joined-append, held-cut, tokens-cut, tokens-finish, taken-all, taken-out, tail-joined}
+use Rattle.model.proofs.Places.{Rises, rises-lower, all-rises, placed-append, entries-front, entries-back}
 
 -- ---- lists of numbers that pass a test
 
@@ -66,24 +69,49 @@ module _ (ps : List Position) where
       ∙ ap (allFrom (isEnd ps w) (suc (length u))) (sym z)
       ∙ ap (λ (l : List ℕ). allFrom (isEnd ps l) (suc (length u)) (length (u ++ b) - length u)) (sym e))
 
+  -- New ends rise, from past the old text up to the new text's end.
+  pub newEnds-past : (t a : List ℕ) → Rises (length t) (length t + length a) (newEnds ps t (t ++ a))
+  newEnds-past t a =
+      let n : length a ≡ length (t ++ a) - length t = omega (arith, length-append t a) in
+      subst (λ (m : ℕ). Rises (length t) (length t + length a) (allFrom (isEnd ps (t ++ a)) (suc (length t)) m)) n (all-rises (isEnd ps (t ++ a)) (length a) (length t))
+
 -- ---- what an accepted call does to the text
 
 module _ (limit : ℕ) where
-  -- What a call lets out, from the held tail, and what is held then.
+  -- What a call lets out, from the held tail, and what is held then. "The finish lets it through as it came": byte by byte.
   pub record Through : Type 0 where
-    pub out : List ℕ
+    pub out : List Token
     pub held : List ℕ
 
   abbrev pub through : (held : List ℕ) → Call → Through
-  through held (feed piece n) = record { out = letOut limit (held ++ piece); held = heldTail limit (held ++ piece) }
-  through held (finish n) = record { out = held; held = [] }
+  through held (feed piece n) = record { out = outTokens limit (held ++ piece); held = heldTail limit (held ++ piece) }
+  through held (finish n) = record { out = byteTokens held; held = [] }
 
-  open-text : (k : Kept) → k .finished ≡ false → textOf limit k ≡ letOut limit (k .taken)
-  open-text k e = ap (λ (b : Bool). cond b (decode limit (k .taken)) (letOut limit (k .taken))) e
+  -- The tokens of the text: that is what they give, and raw places are what they take.
+  abbrev pub tokensOf : Kept → List Token
+  tokensOf k = tokensFrom limit 0 (readOf limit k)
 
-  pub text-grows : (k : Kept) (c : Call) → k .finished ≡ false → textOf limit (after c k) ≡ textOf limit k ++ through (heldTail limit (k .taken)) c .out
-  text-grows k (feed piece n) e = text-cut limit (k .taken) piece ∙ ap (λ (l : List ℕ). l ++ letOut limit (heldTail limit (k .taken) ++ piece)) (sym (open-text k e))
-  text-grows k (finish n) e = finish-text limit (k .taken) ∙ ap (λ (l : List ℕ). l ++ heldTail limit (k .taken)) (sym (open-text k e))
+  open-tokens : (k : Kept) → k .finished ≡ false → tokensOf k ≡ outTokens limit (k .taken)
+  open-tokens k e = ap (λ (b : Bool). tokensFrom limit 0 (cond b (k .taken) (withoutTail limit (k .taken)))) e
+
+  pub tokens-grow : (k : Kept) (c : Call) → k .finished ≡ false → tokensOf (after c k) ≡ tokensOf k ++ through (heldTail limit (k .taken)) c .out
+  tokens-grow k (feed piece n) e =
+      tokens-cut limit (k .taken) piece ∙ ap (λ (l : List Token). l ++ outTokens limit (heldTail limit (k .taken) ++ piece)) (sym (open-tokens k e))
+  tokens-grow k (finish n) e = tokens-finish limit (k .taken) ∙ ap (λ (l : List Token). l ++ byteTokens (heldTail limit (k .taken))) (sym (open-tokens k e))
+
+  pub text-grows : (k : Kept) (c : Call) → k .finished ≡ false → textOf limit (after c k) ≡ textOf limit k ++ joined (through (heldTail limit (k .taken)) c .out)
+  text-grows k c e = ap joined (tokens-grow k c e) ∙ joined-append (tokensOf k) (through (heldTail limit (k .taken)) c .out)
+
+  -- The raw bytes read are those taken without those held, and never more than those taken.
+  pub read-count : (k : Kept) → k .finished ≡ false → taken (tokensOf k) ≡ length (k .taken) - length (heldTail limit (k .taken))
+  read-count k e = omega (arith, ap taken (open-tokens k e), taken-out limit (k .taken))
+
+  pub read-within : (k : Kept) → taken (tokensOf k) ≤ length (k .taken)
+  read-within k = go (k .finished)
+    where
+      go : (b : Bool) → taken (tokensFrom limit 0 (cond b (k .taken) (withoutTail limit (k .taken)))) ≤ length (k .taken)
+      go true = let t = taken-all limit (k .taken) 0 (omega arith) in omega arith
+      go false = omega (arith, taken-out limit (k .taken))
 
   pub not-finished : (k : Kept) (c : Call) → refusal limit (k .finished) (length (k .taken)) c ≡ 0 → k .finished ≡ false
   not-finished k c e = branch (k .finished) e (λ t q. absurd (omega arith)) (λ t q. T-false (k .finished) (λ u. T-not (k .finished) t u))
@@ -92,7 +120,7 @@ module _ (limit : ℕ) where
 
   module _ (ps : List Position) (k : Kept) (c : Call) (cs : List Call) where
     pub scan-accepts : refusal limit (k .finished) (length (k .taken)) c ≡ 0
-        → scanFrom limit ps k (c ∷ cs) ≡ reported (newEnds ps (textOf limit k) (textOf limit (after c k))) ∷ scanFrom limit ps (after c k) cs
+        → scanFrom limit ps k (c ∷ cs) ≡ reported (newEntries limit ps k c) ∷ scanFrom limit ps (after c k) cs
     scan-accepts q = rw (q, scanFrom)
 
     pub scan-refuses : (n : ℕ) → refusal limit (k .finished) (length (k .taken)) c ≡ suc n → scanFrom limit ps k (c ∷ cs) ≡ refused (suc n) ∷ scanFrom limit ps k cs
@@ -108,46 +136,72 @@ module _ (limit : ℕ) where
   -- ---- all the calls together
 
   record Grown (ps : List Position) (k : Kept) (cs : List Call) : Type 0 where
-    more : List ℕ
-    text : textOf limit (keptAfter limit k cs) ≡ textOf limit k ++ more
-    ends : reportedEnds (scanFrom limit ps k cs) ≡ newEnds ps (textOf limit k) (textOf limit k ++ more)
+    more : List Token
+    tokens : tokensOf (keptAfter limit k cs) ≡ tokensOf k ++ more
+    entries : reportedEntries (scanFrom limit ps k cs) ≡ entriesBy 0 0 (tokensOf k ++ more) (newEnds ps (textOf limit k) (textOf limit k ++ joined more))
 
   grown : (ps : List Position) (cs : List Call) (k : Kept) → Grown ps k cs
   grown ps [] k =
-      let n = append-nil (textOf limit k) in
-      record { more = []; text = sym n; ends = sym (ap (newEnds ps (textOf limit k)) n ∙ newEnds-same ps (textOf limit k)) }
+      let n = append-nil (tokensOf k) in
+      let t = append-nil (textOf limit k) in
+      record {
+        more = [];
+        tokens = sym n;
+        entries = sym (ap (λ (l : List ℕ). entriesBy 0 0 (tokensOf k ++ []) (newEnds ps (textOf limit k) l)) t ∙ ap (entriesBy 0 0 (tokensOf k ++ [])) (newEnds-same ps (textOf limit k)));
+      }
   grown ps (c ∷ cs) k = go (refusal limit (k .finished) (length (k .taken)) c) refl (grown ps cs)
     where
       go : (r : ℕ) → refusal limit (k .finished) (length (k .taken)) c ≡ r → ((k : Kept) → Grown ps k cs) → Grown ps k (c ∷ cs)
       go zero q ih =
           let out = through (heldTail limit (k .taken)) c .out in
           let t = textOf limit k in
-          let e : textOf limit (after c k) ≡ t ++ out = text-grows k c (not-finished k c q) in
+          let ts = tokensOf k in
+          let d : tokensOf (after c k) ≡ ts ++ out = tokens-grow k c (not-finished k c q) in
+          let e : textOf limit (after c k) ≡ t ++ joined out = text-grows k c (not-finished k c q) in
           let g = ih (after c k) in
+          let us = g .more in
+          let N : List ℕ = newEnds ps t (t ++ joined out) in
+          let M : List ℕ = newEnds ps (t ++ joined out) ((t ++ joined out) ++ joined us) in
+          let z : 0 + length (joined (ts ++ out)) ≡ length t + length (joined out) = omega (arith, ap length (joined-append ts out), length-append t (joined out)) in
+          let up : Rises 0 (0 + length (joined (ts ++ out))) N = subst (λ (l : ℕ). Rises 0 l N) (sym z) (rises-lower N 0 (length t) (length t + length (joined out)) (omega arith) (newEnds-past ps t (joined out))) in
+          let one : newEntries limit ps k c ≡ entriesBy 0 0 ((ts ++ out) ++ us) N =
+          ap₂ (λ (l : List Token) (x : List ℕ). entriesBy 0 0 l (newEnds ps t x)) d e ∙ sym (entries-front 0 0 (ts ++ out) us N up) in
+          let two : reportedEntries (scanFrom limit ps (after c k) cs) ≡ entriesBy 0 0 ((ts ++ out) ++ us) M =
+          g .entries ∙ ap₂ (λ (l : List Token) (x : List ℕ). entriesBy 0 0 (l ++ us) (newEnds ps x (x ++ joined us))) d e in
+          let a : (ts ++ out) ++ us ≡ ts ++ (out ++ us) = append-assoc ts out us in
           record {
-            more = out ++ g .more;
-            text = ap (textOf limit) (kept-accepts k c cs q) ∙ g .text ∙ ap (λ (l : List ℕ). l ++ g .more) e ∙ append-assoc t out (g .more);
-            ends =
-                ap reportedEnds (scan-accepts ps k c cs q)
-                ∙ ap (λ (l : List ℕ). newEnds ps t (textOf limit (after c k)) ++ l) (g .ends)
-                ∙ ap (λ (l : List ℕ). newEnds ps t l ++ newEnds ps l (l ++ g .more)) e
-                ∙ sym (newEnds-append ps t out (g .more));
+            more = out ++ us;
+            tokens = ap tokensOf (kept-accepts k c cs q) ∙ g .tokens ∙ ap (λ (l : List Token). l ++ us) d ∙ a;
+            entries =
+                ap reportedEntries (scan-accepts ps k c cs q)
+                ∙ ap₂ (λ (x y : List Entry). x ++ y) one two
+                ∙ sym (placed-append (placeIn 0 (placesBy 0 ((ts ++ out) ++ us))) N M)
+                ∙ ap (λ (l : List Token). entriesBy 0 0 l (N ++ M)) a
+                ∙ ap (entriesBy 0 0 (ts ++ (out ++ us))) (sym (newEnds-append ps t (joined out) (joined us)) ∙ ap (λ (x : List ℕ). newEnds ps t (t ++ x)) (sym (joined-append out us)));
           }
       go (suc n) q ih =
           let g = ih k in
           record {
             more = g .more;
-            text = ap (textOf limit) (kept-refuses k c cs n q) ∙ g .text;
-            ends = ap reportedEnds (scan-refuses ps k c cs n q) ∙ g .ends;
+            tokens = ap tokensOf (kept-refuses k c cs n q) ∙ g .tokens;
+            entries = ap reportedEntries (scan-refuses ps k c cs n q) ∙ g .entries;
           }
 
-  -- "The ends reported are those of all the calls in order." After an accepted finish they are the ends, above 0, of the decoded plan.
-  pub finished-ends : (ps : List Position) (cs : List Call) → keptAfter limit nothingKept cs .finished ≡ true
-      → reportedEnds (scanFrom limit ps nothingKept cs) ≡ newEnds ps [] (decode limit (keptAfter limit nothingKept cs .taken))
-  finished-ends ps cs e =
+  -- "The ends reported are those of all the calls in order": the ends, above 0, of the text so far, each with its raw count.
+  pub all-entries : (ps : List Position) (cs : List Call)
+      → reportedEntries (scanFrom limit ps nothingKept cs) ≡ entriesBy 0 0 (tokensOf (keptAfter limit nothingKept cs)) (newEnds ps [] (textOf limit (keptAfter limit nothingKept cs)))
+  all-entries ps cs =
       let g = grown ps cs nothingKept in
+      g .entries ∙ ap (λ (l : List Token). entriesBy 0 0 l (newEnds ps [] (joined l))) (sym (g .tokens))
+
+  -- After an accepted finish that text is the decoded plan.
+  pub finished-entries : (ps : List Position) (cs : List Call) → keptAfter limit nothingKept cs .finished ≡ true
+      → reportedEntries (scanFrom limit ps nothingKept cs)
+      ≡ entriesBy 0 0 (tokensFrom limit 0 (keptAfter limit nothingKept cs .taken)) (newEnds ps [] (decode limit (keptAfter limit nothingKept cs .taken)))
+  finished-entries ps cs e =
       let k = keptAfter limit nothingKept cs in
-      g .ends ∙ ap (newEnds ps []) (sym (g .text) ∙ ap (λ (b : Bool). cond b (decode limit (k .taken)) (letOut limit (k .taken))) e)
+      all-entries ps cs
+      ∙ ap (λ (l : List ℕ). entriesBy 0 0 (tokensFrom limit 0 l) (newEnds ps [] (decode limit l))) (ap (λ (b : Bool). cond b (k .taken) (withoutTail limit (k .taken))) e)
 
 -- ---- a scanner, with states of any kind
 
@@ -182,15 +236,21 @@ module _ (limit : ℕ) (S : Type 0) (step : S → ℕ → S) (top : S → Bool) 
       record {
         taken = s .taken + length (pieceOf c);
         held = f .held;
-        state = run (s .state) (f .out);
-        decoded = s .decoded + length (f .out);
+        state = run (s .state) (joined (f .out));
+        decoded = s .decoded + length (joined (f .out));
         finished = finishes c;
       }
+
+  -- What it reports: the ends in what the call lets out, with their raw counts; before that come the bytes decoded, and the raw bytes read.
+  abbrev pub reports : Scanner S → Call → List Entry
+  reports s c =
+      let out = through limit (s .held) c .out in
+      entriesBy (s .decoded) (s .taken - length (s .held)) out (endsIn (s .state) (s .decoded) (joined out))
 
   abbrev pub scannerFrom : Scanner S → List Call → List Answer
   scannerFrom s [] = []
   scannerFrom s (c ∷ cs) = elim (refusal limit (s .finished) (s .taken) c) [
-    | zero ↦ reported (endsIn (s .state) (s .decoded) (through limit (s .held) c .out)) ∷ scannerFrom (moved s c) cs
+    | zero ↦ reported (reports s c) ∷ scannerFrom (moved s c) cs
     | suc n ↦ refused (suc n) ∷ scannerFrom s cs
   ]
 
@@ -237,32 +297,50 @@ module _ (limit : ℕ) (S : Type 0) (step : S → ℕ → S) (top : S → Bool) 
     finished-after k (finish n) = refl
 
     module _ (s : Scanner S) (k : Kept) (c : Call) (f : Follows s k) (e : k .finished ≡ false) where
-      grows : textOf limit (after c k) ≡ textOf limit k ++ through limit (s .held) c .out
-      grows = text-grows limit k c e ∙ ap (λ (h : List ℕ). textOf limit k ++ through limit h c .out) (sym (f .held e))
+      out : List Token
+      out = through limit (s .held) c .out
+
+      tokens : tokensOf limit (after c k) ≡ tokensOf limit k ++ out
+      unfolding out
+      tokens = tokens-grow limit k c e ∙ ap (λ (h : List ℕ). tokensOf limit k ++ through limit h c .out) (sym (f .held e))
+
+      grows : textOf limit (after c k) ≡ textOf limit k ++ joined out
+      grows = ap joined tokens ∙ joined-append (tokensOf limit k) out
 
       follows-moved : Follows (moved s c) (after c k)
+      unfolding out
       follows-moved =
           let a = f .taken in
           let b = f .decoded in
           record {
             taken = omega (arith, taken-after k c);
             held = λ h. ap (λ (x : List ℕ). through limit x c .held) (f .held e) ∙ held-after k c h;
-            state = subst (λ (l : List ℕ). Means (run (s .state) (through limit (s .held) c .out)) l) (sym grows) (run-means (through limit (s .held) c .out) (textOf limit k) (s .state) (f .state));
-            decoded = omega (arith, ap length grows, length-append (textOf limit k) (through limit (s .held) c .out));
+            state = subst (λ (l : List ℕ). Means (run (s .state) (joined out)) l) (sym grows) (run-means (joined out) (textOf limit k) (s .state) (f .state));
+            decoded = omega (arith, ap length grows, length-append (textOf limit k) (joined out));
             finished = finished-after k c;
           }
 
-      answers : endsIn (s .state) (s .decoded) (through limit (s .held) c .out) ≡ newEnds ps (textOf limit k) (textOf limit (after c k))
+      ends-are : endsIn (s .state) (s .decoded) (joined out) ≡ newEnds ps (textOf limit k) (textOf limit k ++ joined out)
+      ends-are = ap (λ (i : ℕ). endsIn (s .state) i (joined out)) (f .decoded) ∙ endsIn-are (joined out) (textOf limit k) (s .state) (f .state)
+
+      answers : reports s c ≡ newEntries limit ps k c
+      unfolding out
       answers =
-          ap (λ (i : ℕ). endsIn (s .state) i (through limit (s .held) c .out)) (f .decoded)
-          ∙ endsIn-are (through limit (s .held) c .out) (textOf limit k) (s .state) (f .state)
-          ∙ ap (newEnds ps (textOf limit k)) (sym grows)
+          let t = textOf limit k in
+          let N : List ℕ = newEnds ps t (t ++ joined out) in
+          let a = f .taken in
+          let at : s .decoded ≡ 0 + length t = omega (arith, f .decoded) in
+          let raw : s .taken - length (s .held) ≡ 0 + taken (tokensOf limit k) = omega (arith, ap length (f .held e), read-count limit k e) in
+          ap (entriesBy (s .decoded) (s .taken - length (s .held)) out) ends-are
+          ∙ ap₂ (λ (i r : ℕ). entriesBy i r out N) at raw
+          ∙ sym (entries-back 0 0 (tokensOf limit k) out N (length t + length (joined out)) (subst (λ (i : ℕ). Rises i (length t + length (joined out)) N) (sym (zero-add (length t))) (newEnds-past ps t (joined out))))
+          ∙ ap₂ (λ (l : List Token) (x : List ℕ). entriesBy 0 0 l (newEnds ps t x)) (sym tokens) (sym grows)
 
     refusals : (s : Scanner S) (k : Kept) (c : Call) → Follows s k → refusal limit (s .finished) (s .taken) c ≡ refusal limit (k .finished) (length (k .taken)) c
     refusals s k c f = ap₂ (λ (b : Bool) (n : ℕ). refusal limit b n c) (f .finished) (f .taken)
 
     scanner-accepts : (s : Scanner S) (c : Call) (cs : List Call) → refusal limit (s .finished) (s .taken) c ≡ 0
-        → scannerFrom s (c ∷ cs) ≡ reported (endsIn (s .state) (s .decoded) (through limit (s .held) c .out)) ∷ scannerFrom (moved s c) cs
+        → scannerFrom s (c ∷ cs) ≡ reported (reports s c) ∷ scannerFrom (moved s c) cs
     scanner-accepts s c cs q = rw (q, scannerFrom)
 
     scanner-refuses : (s : Scanner S) (c : Call) (cs : List Call) (n : ℕ) → refusal limit (s .finished) (s .taken) c ≡ suc n → scannerFrom s (c ∷ cs) ≡ refused (suc n) ∷ scannerFrom s cs
@@ -277,7 +355,7 @@ module _ (limit : ℕ) (S : Type 0) (step : S → ℕ → S) (top : S → Bool) 
         go zero q ih =
             let e = not-finished limit k c q in
             scanner-accepts s c cs (refusals s k c f ∙ q)
-            ∙ ap₂ (λ (a : List ℕ) (l : List Answer). reported a ∷ l) (answers s k c f e) (ih (moved s c) (after c k) (follows-moved s k c f e))
+            ∙ ap₂ (λ (a : List Entry) (l : List Answer). reported a ∷ l) (answers s k c f e) (ih (moved s c) (after c k) (follows-moved s k c f e))
             ∙ sym (scan-accepts limit ps k c cs q)
         go (suc n) q ih =
             scanner-refuses s c cs n (refusals s k c f ∙ q)

@@ -16,7 +16,8 @@ use Rattle.model.specs.WholeNames.{CoverAnswer, turnsDown, says, covered
 use Rattle.model.specs.Like.{LikePattern, misspelt, pattern, like, isLike, imported}
 use Rattle.model.specs.Codes.{setBytes, inSet, smudged, parseWith}
 use Rattle.model.specs.References.{formLimit, utf8, byteTokens, tokensFrom, decode, heldTail, outTokens, letOut}
-use Rattle.model.specs.PlainScan.{Call, feed, finish, Answer, refused, reported, refusalFor, plainScan, reportedEnds}
+use Rattle.model.specs.RawPlaces.{rawPlaces, endsOf, rawsOf, pairsOf}
+use Rattle.model.specs.PlainScan.{Call, feed, finish, Answer, refused, reported, needed, refusalFor, plainScan, reportedEntries}
 use Rattle.model.specs.WindowSearch.{shift, windows, shown}
 use Rattle.model.specs.Turns.{Dispatcher, opened, OfferAnswer, turnsDown, takes, offer, TurnAnswer, nobody, serves, turn}
 use Rattle.model.specs.MarkedTable.{same, isAccepted, isRefused}
@@ -122,7 +123,7 @@ elements = refl
 turned-last : (kindSet true (class true (record { low = 97; high = 97 } ∷ [])) 97 ≡ false) × (kindSet true (class true (record { low = 97; high = 97 } ∷ [])) 65 ≡ false)
 turned-last = (refl, refl)
 
-folded : reportedEnds (plainScan 256 (ascii "rOw") [] [] (feed (ascii "Row row rov") 42 ∷ finish 31 ∷ [])) ≡ 3 ∷ 7 ∷ []
+folded : endsOf (reportedEntries (plainScan 256 (ascii "rOw") [] [] (feed (ascii "Row row rov") 84 ∷ finish 62 ∷ []))) ≡ 3 ∷ 7 ∷ []
 folded = refl
 
 -- "bytes 65 to 90 and 97 to 122 move by 32, every other byte is itself": at the edges of both alphabets, and bytes that `c ^ 32` or bounds of seven bits
@@ -134,7 +135,7 @@ own-cases : T (same (map otherCase (0 ∷ 32 ∷ 64 ∷ 91 ∷ 96 ∷ 123 ∷ 19
 own-cases = tt
 
 -- "`*` .. both"
-starred : reportedEnds (plainScan 0 (ascii "ab*c") [] [] (feed (ascii "ac abbc") 38 ∷ finish 31 ∷ [])) ≡ 2 ∷ 7 ∷ []
+starred : endsOf (reportedEntries (plainScan 0 (ascii "ab*c") [] [] (feed (ascii "ac abbc") 76 ∷ finish 62 ∷ []))) ≡ 2 ∷ 7 ∷ []
 starred = refl
 
 -- ---- references
@@ -240,47 +241,66 @@ lister = (refl, refl, refl, refl, refl)
 
 -- "Forgetting held bytes at a cut inside `&amp;`": the plan in two pieces, cut there, with a feed that is refused for its short list between them, an
 -- empty piece, and calls after the finish.
-cut-plan : plainScan 0 rule [] [] (feed (ascii "Row A&a") 38 ∷ feed (ascii "x") 31 ∷ feed [] 31 ∷ feed (ascii "mp;B 12;") 39 ∷ finish 30 ∷ finish 31 ∷ feed [] 31 ∷ finish 31 ∷ [])
-    ≡ reported [] ∷ refused 9 ∷ reported [] ∷ reported (9 ∷ 10 ∷ []) ∷ refused 9 ∷ reported [] ∷ refused 12 ∷ refused 12 ∷ []
+cut-plan : plainScan 0 rule [] [] (feed (ascii "Row A&a") 76 ∷ feed (ascii "x") 63 ∷ feed [] 62 ∷ feed (ascii "mp;B 12;") 78 ∷ finish 61 ∷ finish 62 ∷ feed [] 62 ∷ finish 62 ∷ [])
+    ≡ reported [] ∷ refused 9 ∷ reported [] ∷ reported (pairsOf (9 ∷ 13 ∷ 10 ∷ 14 ∷ [])) ∷ refused 9 ∷ reported [] ∷ refused 12 ∷ refused 12 ∷ []
 unfolding utf8
 cut-plan = refl
 
--- A feed of one byte that reports 32 ends, and a finish that lets 31 bytes through, with lists exactly long enough.
+-- A feed of one byte that reports 32 ends, and a finish that lets 31 bytes through, with lists exactly long enough. "A held tail that is let through counts byte by byte."
 abbrev most : List ℕ
 most = ascii "&#" ++ zeros 29
 
 abbrev risingFrom : (from n : ℕ) → List ℕ
 risingFrom from zero = []
-risingFrom from (suc n) = from ∷ risingFrom (suc from) n
+risingFrom from (suc n) = from ∷ from ∷ risingFrom (suc from) n
 
-ends-of-31-held : plainScan 0 (ascii ".") [] [] (feed most 62 ∷ feed (ascii "0") 31 ∷ feed (ascii "0") 32 ∷ feed most 62 ∷ finish 31 ∷ [])
-    ≡ reported [] ∷ refused 9 ∷ reported (risingFrom 1 32) ∷ reported [] ∷ reported (risingFrom 33 31) ∷ []
+ends-of-31-held : plainScan 0 (ascii ".") [] [] (feed most 124 ∷ feed (ascii "0") 63 ∷ feed (ascii "0") 64 ∷ feed most 124 ∷ finish 62 ∷ [])
+    ≡ reported [] ∷ refused 9 ∷ reported (pairsOf (risingFrom 1 32)) ∷ reported [] ∷ reported (pairsOf (risingFrom 33 31)) ∷ []
 ends-of-31-held = refl
 
--- An impossible character in two pieces: a rule of one byte ends inside the reference. "plans that decode alike get the same answers": the mark itself.
+-- An impossible character in two pieces: a rule of one byte ends inside the reference. "Two spellings of one plan still agree in decoded ends; their raw counts may differ":
+-- the mark itself.
 abbrev onlyByte : (c : ℕ) → List Call → List Answer
 onlyByte c = plainScan 0 (c ∷ []) [] []
 
 abbrev impossible : List Call
-impossible = feed (ascii "a&#0") 35 ∷ feed (ascii ";b") 33 ∷ finish 31 ∷ []
+impossible = feed (ascii "a&#0") 70 ∷ feed (ascii ";b") 66 ∷ finish 62 ∷ []
 
 abbrev mark-itself : List Call
-mark-itself = feed (ascii "a&#65533") 39 ∷ feed (ascii ";b") 33 ∷ finish 31 ∷ []
+mark-itself = feed (ascii "a&#65533") 78 ∷ feed (ascii ";b") 66 ∷ finish 62 ∷ []
 
-inside-a-reference : (onlyByte 239 impossible ≡ reported [] ∷ reported (2 ∷ []) ∷ reported [] ∷ [])
-    × (onlyByte 191 impossible ≡ reported [] ∷ reported (3 ∷ []) ∷ reported [] ∷ [])
-    × (onlyByte 189 impossible ≡ reported [] ∷ reported (4 ∷ []) ∷ reported [] ∷ [])
+abbrev afterMark : List Call → List Answer
+afterMark = plainScan 0 (ascii "a.+b") [] []
+
+inside-a-reference : (onlyByte 239 impossible ≡ reported [] ∷ reported (pairsOf (2 ∷ 5 ∷ [])) ∷ reported [] ∷ [])
+    × (onlyByte 191 impossible ≡ reported [] ∷ reported (pairsOf (3 ∷ 5 ∷ [])) ∷ reported [] ∷ [])
+    × (onlyByte 189 impossible ≡ reported [] ∷ reported (pairsOf (4 ∷ 5 ∷ [])) ∷ reported [] ∷ [])
     × (decode formLimit (ascii "a&#0;b") ≡ decode formLimit (ascii "a&#65533;b"))
-    × (plainScan 0 (ascii "a.+b") [] [] impossible ≡ plainScan 0 (ascii "a.+b") [] [] mark-itself)
+    × (endsOf (reportedEntries (afterMark impossible)) ≡ endsOf (reportedEntries (afterMark mark-itself)))
+    × (rawsOf (reportedEntries (afterMark impossible)) ≡ 6 ∷ [])
+    × (rawsOf (reportedEntries (afterMark mark-itself)) ≡ 10 ∷ [])
 unfolding utf8
-inside-a-reference = (refl, refl, refl, refl, refl)
+inside-a-reference = (refl, refl, refl, refl, refl, refl, refl)
+
+-- "the raw count just past the byte or the whole reference that gave it": bytes, references of one, two, three and four bytes, a padded one, `&` that begins none, and tails
+-- that are let through.
+raw-places : (rawPlaces formLimit (ascii "a&#xE9;b") ≡ 1 ∷ 7 ∷ 7 ∷ 8 ∷ [])
+    × (rawPlaces formLimit (ascii "&&amp;&am") ≡ 1 ∷ 6 ∷ 7 ∷ 8 ∷ 9 ∷ [])
+    × (rawPlaces formLimit (ascii "&#8364;&#x1F600;") ≡ 7 ∷ 7 ∷ 7 ∷ 16 ∷ 16 ∷ 16 ∷ 16 ∷ [])
+    × (rawPlaces formLimit (ascii "&#" ++ zeros 27 ++ ascii "38;") ≡ 32 ∷ [])
+    × (rawPlaces formLimit (ascii "&amq;") ≡ 1 ∷ 2 ∷ 3 ∷ 4 ∷ 5 ∷ [])
+unfolding utf8
+raw-places = (refl, refl, refl, refl, refl)
 
 -- ---- scan calls: 12 before 10 before 9, and the edges
 refusals : (refusalFor formLimit true 4294967295 1 0 ≡ 12)
     × (refusalFor formLimit false 4294967295 1 0 ≡ 10)
-    × (refusalFor formLimit false 4294967295 0 30 ≡ 9)
-    × (refusalFor formLimit false 4294967294 1 32 ≡ 0)
-refusals = (refl, refl, refl, refl)
+    × (refusalFor formLimit false 4294967295 0 61 ≡ 9)
+    × (refusalFor formLimit false 4294967294 1 63 ≡ 9)
+    × (refusalFor formLimit false 4294967294 1 64 ≡ 0)
+    × (refusalFor formLimit false 0 4294967295 8589934651 ≡ 9)
+    × (refusalFor formLimit false 0 4294967295 8589934652 ≡ 0)
+refusals = (refl, refl, refl, refl, refl, refl, refl)
 
 -- ---- whole-text calls: 10 before 9, and the edges of both
 
@@ -368,7 +388,7 @@ smudgesHold (finds flag rule codes sets raw e s ∷ rest) =
     let ps = smudged (foldFlag flag) rule codes sets in
     let text = decode formLimit raw in
     isAccepted (parseWith (foldFlag flag) rule codes sets) && same e (ends ps text) && same s (starts ps text)
-    && same e (reportedEnds (plainScan flag rule codes sets (feed raw (length raw + 31) ∷ finish 31 ∷ []))) && smudgesHold rest
+    && same e (endsOf (reportedEntries (plainScan flag rule codes sets (feed raw (needed formLimit (length raw)) ∷ finish (needed formLimit 0) ∷ [])))) && smudgesHold rest
 smudgesHold (refuses flag rule codes sets n p ∷ rest) = isRefused (parseWith (foldFlag flag) rule codes sets) n p && smudgesHold rest
 
 smudges : T (smudgesHold (

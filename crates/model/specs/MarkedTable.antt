@@ -1,15 +1,16 @@
--- Document 01, "Marked table": M1 to M12 as one list of cases, the two plans of note 4, one padded and one short, and a rule that shows what M7 showed; what it
--- is for them to hold, and that they do. Each text goes through the plain scan too. Assumes nothing.
+-- Document 01, "Marked table": M1 to M12 as one list of cases, the two plans of note 4, one padded and one short, a rule that shows what M7 showed, and pairs of
+-- note 7; what it is for them to hold, and that they do. Each text goes through the plain scan too. Assumes nothing.
 use mathlib.Core.Bool.{Bool, true, false, _&&_}
 use mathlib.Core.List.{List, [], _∷_}
-use Prim.Native.Nat.{ℕ, _+_}
+use Prim.Native.Nat.{ℕ}
 use lib.Dec.{T, eqb}
 use lib.ListN.{length}
 use Rattle.model.specs.Ascii.{ascii}
 use Rattle.model.specs.Occurrence.{ends, starts}
 use Rattle.model.specs.NumberedAnswers.{Parsed, refused, accepted, parse, rulePositions}
-use Rattle.model.specs.References.{formLimit, utf8, heldMost, decode}
-use Rattle.model.specs.PlainScan.{feed, finish, plainScan, reportedEnds}
+use Rattle.model.specs.References.{formLimit, utf8, decode}
+use Rattle.model.specs.RawPlaces.{Entry, endsOf, flat}
+use Rattle.model.specs.PlainScan.{feed, finish, needed, plainScan, reportedEntries}
 use Rattle.model.specs.WindowSearch.{windows}
 
 pub data Count : Type 0 where
@@ -19,6 +20,7 @@ pub data Count : Type 0 where
 pub data Case : Type 0 where
   finds : (rule text : List ℕ) (ends starts : List ℕ) (windows : Count) → Case
   reads : (rule raw : List ℕ) (ends starts : List ℕ) → Case
+  pairs : (rule raw numbers : List ℕ) → Case
   decodes : (raw text : List ℕ) → Case
   refuses : (rule : List ℕ) (number place : ℕ) → Case
 
@@ -40,15 +42,19 @@ abbrev pub isRefused : Parsed → (number place : ℕ) → Bool
 isRefused (refused n p) number place = eqb n number && eqb p place
 isRefused (accepted es) number place = false
 
--- The text fed to the plain scan as one piece, and then finished: all the ends that it reports.
+-- The text fed to the plain scan as one piece, and then finished: all the pairs that it reports, and their ends.
+abbrev pub fedEntries : (rule text : List ℕ) → List Entry
+fedEntries rule text = reportedEntries (plainScan 0 rule [] [] (feed text (needed formLimit (length text)) ∷ finish (needed formLimit 0) ∷ []))
+
 abbrev pub fed : (rule text : List ℕ) → List ℕ
-fed rule text = reportedEnds (plainScan 0 rule [] [] (feed text (length text + heldMost formLimit) ∷ finish (heldMost formLimit) ∷ []))
+fed rule text = endsOf (fedEntries rule text)
 
 abbrev pub holds : Case → Bool
 holds (finds rule text e s w) =
     let ps = rulePositions false rule in
     isAccepted (parse false rule) && same e (ends ps text) && same e (fed rule text) && same s (starts ps text) && counts w (length (windows ps text))
 holds (reads rule raw e s) = isAccepted (parse false rule) && same e (fed rule raw) && same s (starts (rulePositions false rule) (decode formLimit raw))
+holds (pairs rule raw numbers) = isAccepted (parse false rule) && same numbers (flat (fedEntries rule raw))
 holds (decodes raw text) = same text (decode formLimit raw)
 holds (refuses rule number place) = isRefused (parse false rule) number place
 
@@ -74,6 +80,9 @@ table =
     ∷ refuses (ascii "a?") 8 2  -- M12
     ∷ reads (ascii "Row A&B [0-9]+") (ascii "Row A&#0000000038;B 12;") (9 ∷ 10 ∷ []) (0 ∷ [])  -- note 4, padded
     ∷ reads (ascii "Row A&B [0-9]+") (ascii "Row A&#38;B 12;") (9 ∷ 10 ∷ []) (0 ∷ [])  -- and short
+    ∷ pairs (ascii "Row A&B [0-9]+") (ascii "Row A&#0000000038;B 12;") (9 ∷ 21 ∷ 10 ∷ 22 ∷ [])  -- note 7: two spellings agree in decoded ends, and not in raw counts
+    ∷ pairs (ascii "Row A&B [0-9]+") (ascii "Row A&#38;B 12;") (9 ∷ 13 ∷ 10 ∷ 14 ∷ [])
+    ∷ pairs (ascii ".") (ascii "a&#xE9;&") (1 ∷ 1 ∷ 2 ∷ 7 ∷ 3 ∷ 7 ∷ 4 ∷ 8 ∷ [])  -- the bytes of one reference share its count, and a held tail counts byte by byte
     ∷ []
 
 -- The theorem: they all hold.

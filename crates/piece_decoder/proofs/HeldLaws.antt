@@ -11,7 +11,7 @@ use lib.Seq.{drop-cons, take-all, take-suc-set, take-append-add, drop-append-add
 use Rattle.model.specs.References.{formLimit, heldMost, found, referenceAt, utf8, canGrow, heldTail, outTokens}
 use Rattle.model.proofs.Truth.{T-to}
 use Rattle.model.proofs.Forms.{not-none}
-use Rattle.model.proofs.Borders.{ref-local, ref-growing}
+use Rattle.model.proofs.Borders.{ref-into, ref-local, ref-growing}
 use Rattle.model.proofs.Decoding.{growing-length}
 use Rattle.reference_reader.specs.declared.Reference.{Reference}
 use Rattle.reference_reader.specs.declared.Reference.the-variants.{Decoded, Literal, Incomplete}
@@ -142,6 +142,7 @@ module _ (h : Held) (piece : List ℕ) (fine : HeldFine h) (j : Held) (x : TopUp
             holds = held-reference formLimit whole code k told ∙ ap (heldTail formLimit) after;
             fits = omega (arith, ap length (x .is), length-take formLimit whole, length-append (heldOf h) piece);
             few = omega arith;
+            short = omega (arith, ref-into formLimit whole code k told .short);
             small = moving .3;
           };
         }

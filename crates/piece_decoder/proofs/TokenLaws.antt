@@ -11,9 +11,10 @@ use lib.Seq.{sets, length-sets, drop-cons, drop-drop, length-take-le, take-all}
 use mir.Val.{Fits}
 use mir.Syntax.{w64}
 use borrow.Rule.Slice.PartMut.{putMid, midOf}
-use Rattle.model.specs.References.{formLimit, none, referenceAt, utf8, Token, byteToken, byteTokens, joined, canGrow, heldTail, outTokens}
+use Rattle.model.specs.References.{formLimit, none, found, referenceAt, utf8, Token, byteToken, byteTokens, joined, canGrow, heldTail, outTokens}
 use Rattle.model.proofs.LentLists.{sets-append, sets-from}
-use Rattle.model.proofs.Decoding.{joined-append, joined-bytes, taken-append, taken-bytes}
+use Rattle.model.proofs.Borders.{ref-into}
+use Rattle.model.proofs.Decoding.{form-four, joined-append, joined-bytes, taken-append, taken-bytes}
 use Rattle.model.proofs.Cuts.{out-reference, held-reference, out-none, held-none, held-open, out-run, held-run, out-held}
 use Rattle.literal_run.specs.LiteralRuns.{LiteralsCopied}
 use Rattle.reference_reader.specs.declared.Reference.{Reference}
@@ -42,6 +43,10 @@ hands-join piece i j k ts us x y =
 
 -- ---- `decode_amp`, `decode_token`
 
+-- every form has four bytes at least
+reference-four : (cs : List ℕ) (n k : ℕ) → referenceAt formLimit cs ≡ found n k → 4 ≤ k
+reference-four cs n k q = let p = ref-into formLimit cs n k q .prefix in omega (arith, form-four (p .form), p .size)
+
 module _ (raw out : List ℕ) (i at : ℕ) (h : i < length raw) (wide : at + length raw ≤ length out + i) where
   rest-is : midOf i (length raw - i) raw ≡ drop i raw
   rest-is = take-all (length raw - i) (drop i raw) (omega (arith, length-drop i raw))
@@ -51,7 +56,7 @@ module _ (raw out : List ℕ) (i at : ℕ) (h : i < length raw) (wide : at + len
 
   -- a run of plain bytes
   pub token-run : (getD raw i 0 ≡ 38 → ⊥) → (n : ℕ) (part : List ℕ) → LiteralsCopied (midOf i (length raw - i) raw) (midOf at (length out - at) out) n part
-      → TokenIs raw i out at (record { read = i + n; written = at + n; held = false }) (putMid at (length out - at) out part)
+      → TokenIs raw i out at (record { read = i + n; written = at + n; held = false; reference = false }) (putMid at (length out - at) out part)
   token-run z n part x =
       let d = drop i raw in
       let y : LiteralsCopied d (midOf at (length out - at) out) n part = subst (λ (l : List ℕ). LiteralsCopied l (midOf at (length out - at) out) n part) rest-is x in
@@ -77,6 +82,10 @@ module _ (raw out : List ℕ) (i at : ℕ) (h : i < length raw) (wide : at + len
         written = omega (arith, ap length j);
         few = omega arith;
         list = rw (y .list) (sets-from out at (take n d) (omega arith)) ∙ ap (sets out at) (sym j);
+        plain = λ e. ap byteTokens (sym j);
+        single = λ e. absurd (true≢false (sym e));
+        long = λ e. absurd (true≢false (sym e));
+        held-plain = λ e. refl;
         moves = λ e. omega arith;
         all-held = λ e. absurd (true≢false (sym e));
       }
@@ -112,7 +121,7 @@ module _ (raw out : List ℕ) (i at : ℕ) (h : i < length raw) (wide : at + len
           omega (arith, p .count, length-drop i raw)
 
       pub token-decoded : (n : ℕ) (part : List ℕ) → Put (midOf at (length out - at) out) code n part
-          → TokenIs raw i out at (record { read = i + k; written = at + n; held = false }) (putMid at (length out - at) out part)
+          → TokenIs raw i out at (record { read = i + k; written = at + n; held = false; reference = true }) (putMid at (length out - at) out part)
       token-decoded n part p =
           let m = moving in
           let m₀ = m .0 in
@@ -135,12 +144,16 @@ module _ (raw out : List ℕ) (i at : ℕ) (h : i < length raw) (wide : at + len
             written = omega (arith, ap length j);
             few = omega arith;
             list = rw (p .list) (sets-from out at (utf8 code) (omega (arith, length-drop i raw))) ∙ ap (sets out at) (sym j);
+            plain = λ e. absurd (true≢false e);
+            single = λ e. record { token = record { takes = k; gives = utf8 code }; is = refl };
+            long = λ e. let z = reference-four (drop i raw) code k q in omega arith;
+            held-plain = λ e. absurd (true≢false (sym e));
             moves = λ e. omega arith;
             all-held = λ e. absurd (true≢false (sym e));
           }
 
     -- a byte that begins no form
-    pub token-literal : r ≡ Literal → TokenIs raw i out at (record { read = i + 1; written = at + 1; held = false }) (set out at (getD raw i 0))
+    pub token-literal : r ≡ Literal → TokenIs raw i out at (record { read = i + 1; written = at + 1; held = false; reference = false }) (set out at (getD raw i 0))
     token-literal e =
         let f = literal-told formLimit (drop i raw) (sym e ∙ read-rest) in
         let c = drop-cons raw i 0 h in
@@ -161,12 +174,16 @@ module _ (raw out : List ℕ) (i at : ℕ) (h : i < length raw) (wide : at + len
           written = refl;
           few = omega arith;
           list = refl;
+          plain = λ e. refl;
+          single = λ e. absurd (true≢false (sym e));
+          long = λ e. absurd (true≢false (sym e));
+          held-plain = λ e. refl;
           moves = λ e. omega arith;
           all-held = λ e. absurd (true≢false (sym e));
         }
 
     -- all the rest can still grow
-    pub token-incomplete : r ≡ Incomplete → TokenIs raw i out at (record { read = i; written = at; held = true }) out
+    pub token-incomplete : r ≡ Incomplete → TokenIs raw i out at (record { read = i; written = at; held = true; reference = false }) out
     token-incomplete e =
         let f = incomplete-told formLimit (drop i raw) (sym e ∙ read-rest) in
         let c = drop-cons raw i 0 h in
@@ -176,6 +193,10 @@ module _ (raw out : List ℕ) (i at : ℕ) (h : i < length raw) (wide : at + len
           written = sym (add-zero at);
           few = omega arith;
           list = refl;
+          plain = λ e. refl;
+          single = λ e. absurd (true≢false (sym e));
+          long = λ e. absurd (true≢false (sym e));
+          held-plain = λ e. refl;
           moves = λ e. absurd (true≢false e);
           all-held = λ e. ap (heldTail formLimit) c ∙ held-open formLimit (getD raw i 0) (drop (suc i) raw) (ap (canGrow formLimit) (sym c) ∙ f .1) ∙ sym c;
         }
@@ -191,15 +212,18 @@ pub record Writing (raw out₀ out : List ℕ) (i at : ℕ) : Type 0 where
   pub long : length out ≡ length out₀
 
 module _ (raw out₀ : List ℕ) where
-  pub begun : Writing raw out₀ out₀ 0 0
+  abbrev pub begun : Writing raw out₀ out₀ 0 0
   begun = record { done = []; hands-on = hands-none raw 0 (omega arith); count = refl; few = omega arith; list = refl; long = refl }
 
   -- nothing more is let out, so the tokens so far are all
-  all-written : {out : List ℕ} {i at : ℕ} → Writing raw out₀ out i at → heldTail formLimit (drop i raw) ≡ drop i raw
+  pub all-tokens : {out : List ℕ} {i at : ℕ} (g : Writing raw out₀ out i at) → heldTail formLimit (drop i raw) ≡ drop i raw → outTokens formLimit raw ≡ g .done
+  all-tokens {out} {i} {at} g a = g .hands-on .lets-out ∙ ap (λ (l : List Token). g .done ++ l) (out-held formLimit (drop i raw) a) ∙ append-nil (g .done)
+
+  pub all-written : {out : List ℕ} {i at : ℕ} → Writing raw out₀ out i at → heldTail formLimit (drop i raw) ≡ drop i raw
       → TokensDecodedIs raw out₀ (record { read = i; written = at }) out
   all-written {out} {i} {at} g a =
       let x = g .hands-on in
-      let o : outTokens formLimit raw ≡ g .done = x .lets-out ∙ ap (λ (l : List Token). g .done ++ l) (out-held formLimit (drop i raw) a) ∙ append-nil (g .done) in
+      let o = all-tokens g a in
       record {
         list = g .list ∙ ap (λ (l : List Token). sets out₀ 0 (joined l)) (sym o);
         written = g .count ∙ ap (λ (l : List Token). length (joined l)) (sym o);
@@ -210,7 +234,7 @@ module _ (raw out₀ : List ℕ) where
 
   module _ {out : List ℕ} {i at : ℕ} (g : Writing raw out₀ out i at) where
     module _ {r : TokenRead} {out′ : List ℕ} (x : TokenIs raw i out at r out′) where
-      further : Writing raw out₀ out′ (r .read) (r .written)
+      abbrev pub further : Writing raw out₀ out′ (r .read) (r .written)
       further =
           let f = x .few in
           let k = g .few in

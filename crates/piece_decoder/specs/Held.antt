@@ -39,6 +39,7 @@ pub record CompletedIs (h piece : List ℕ) (code taken : ℕ) : Type 0 where
   pub holds : heldTail formLimit (h ++ piece) ≡ heldTail formLimit (drop taken piece)
   pub fits : taken ≤ length piece
   pub few : length (utf8 code) ≤ length h + taken
+  pub short : length h + taken ≤ formLimit
   pub small : code < codeLimit
 
 -- The held bytes go out as they came; reading goes on at the piece's first byte.

@@ -5,17 +5,19 @@ pub mod held;
 ghost use mathlib.Core.Path.{_≡_};
 ghost use Prim.Native.Nat.{_+_, _≤_, _<_};
 ghost use lib.ListN.{length};
-ghost use Rattle.piece_decoder.specs.Chunks.{TokenIs, TokensDecodedIs, chunkSize, PartEnd, InPlaceIs, ChunkIs};
+ghost use Rattle.piece_decoder.specs.Chunks.{TokenIs, TokensDecodedIs, NoteFits, NotedIs, MarkedIs, chunkSize, marksSize, PartEnd, InPlaceIs, ChunkIs};
+use entry_list::MARK;
 use reference_reader::Reference;
 
 // ---- tokens
 
-// After some tokens: how far the raw bytes are read and the buffer written, and whether the rest is held
-// back.
+// After some tokens: how far the raw bytes are read and the buffer written, whether the rest is held back,
+// and whether they were one reference, and not bytes that stay.
 pub struct TokenRead {
     pub read: usize,
     pub written: usize,
     pub held: bool,
+    pub reference: bool,
 }
 
 // One reference, or one byte that begins none; or all the rest is held back, if it can still grow.
@@ -34,6 +36,7 @@ fn decode_amp(raw: &[u8], i: usize, out: &mut [u8], at: usize) -> TokenRead
                 read: after,
                 written: end,
                 held: false,
+                reference: true,
             };
         }
         Reference::Literal => {
@@ -44,6 +47,7 @@ fn decode_amp(raw: &[u8], i: usize, out: &mut [u8], at: usize) -> TokenRead
                 read: after,
                 written: end,
                 held: false,
+                reference: false,
             };
         }
         Reference::Incomplete => {
@@ -51,6 +55,7 @@ fn decode_amp(raw: &[u8], i: usize, out: &mut [u8], at: usize) -> TokenRead
                 read: i,
                 written: at,
                 held: true,
+                reference: false,
             };
         }
     }
@@ -72,6 +77,7 @@ fn decode_token(raw: &[u8], i: usize, out: &mut [u8], at: usize) -> TokenRead
         read: after,
         written: end,
         held: false,
+        reference: false,
     }
 }
 
@@ -102,6 +108,85 @@ pub fn decode_tokens(raw: &[u8], out: &mut [u8]) -> TokensDecoded
     TokensDecoded {
         read: i,
         written: at,
+    }
+}
+
+// ---- tokens with marks
+
+// As many marks as a chunk has at most. They are cleared with the room: few of them, so that this costs little.
+pub const MARK_LIMIT: usize = 256;
+
+// After some tokens of a part: how far it is read and the buffer written, how many marks were, and whether reading
+// stopped because no more fit.
+pub struct MarkedDecoded {
+    pub read: usize,
+    pub written: usize,
+    pub marks: usize,
+    pub full: bool,
+}
+
+// Writes the mark of a token from `at` on, after m of them, if it is a reference; and returns how many there are.
+fn note(
+    marks: &mut [u16],
+    m: usize,
+    reference: bool,
+    at: usize,
+    written: usize,
+    read: usize,
+) -> usize
+    requires { ⌜ NoteFits (now marks) m at written read ⌝ }
+    ensures { λ r. ⌜ NotedIs (now (marks .entry)) m reference at written read r (now (marks .exit)) ⌝ }
+{
+    if reference {
+        let first = MARK * m;
+        let second = first + 1;
+        let third = first + 2;
+        let ahead = read - written;
+        marks[first] = at as u16;
+        marks[second] = written as u16;
+        marks[third] = ahead as u16;
+        return m + 1;
+    }
+    m
+}
+
+// Decodes what a part of a piece lets out to the front of `out`, as far as the marks of its references go.
+fn decode_marked(raw: &[u8], out: &mut [u8], marks: &mut [u16]) -> MarkedDecoded
+    requires { ⌜ length (now raw) ≤ length (now out) ⌝ }
+    requires { ⌜ length (now raw) ≤ chunkSize ⌝ }
+    requires { ⌜ length (now marks) ≡ marksSize ⌝ }
+    ensures { λ r. ⌜ MarkedIs (now (raw .entry)) (now (out .entry)) r (now (out .exit)) (now (marks .exit)) ⌝ }
+{
+    let mut i = 0;
+    let mut at = 0;
+    let mut m = 0;
+    while i < raw.len() {
+        if MARK_LIMIT <= m {
+            return MarkedDecoded {
+                read: i,
+                written: at,
+                marks: m,
+                full: true,
+            };
+        }
+        let t = decode_token(raw, i, out, at);
+        if t.held {
+            return MarkedDecoded {
+                read: t.read,
+                written: t.written,
+                marks: m,
+                full: false,
+            };
+        }
+        m = note(marks, m, t.reference, at, t.written, t.read);
+        i = t.read;
+        at = t.written;
+    }
+    MarkedDecoded {
+        read: i,
+        written: at,
+        marks: m,
+        full: false,
     }
 }
 
@@ -137,6 +222,9 @@ pub fn literal_chunk(piece: &[u8], i: usize) -> usize
 // one text, since many short texts are slow to step over.
 pub const CHUNK: usize = 4096;
 
+// As many numbers as the marks of a chunk take.
+pub const MARKS: usize = MARK * MARK_LIMIT;
+
 // The end of the part that begins at i.
 fn part_end(i: usize, len: usize) -> usize
     requires { ⌜ i < len ⌝ }
@@ -148,34 +236,46 @@ fn part_end(i: usize, len: usize) -> usize
     i + CHUNK
 }
 
-// After a chunk: how far the piece is read and the room written, and whether the rest of the piece is
-// held back.
+// After a chunk: how far the piece is read and the room written, how many marks were, and whether the rest of
+// the piece is held back.
 pub struct Chunk {
     pub read: usize,
     pub written: usize,
+    pub marks: usize,
     pub held: bool,
 }
 
-// A part of a piece, from i on, decoded into the room. What the part holds back begins the next one, and
-// is held back if the piece ends there.
-pub fn decode_chunk(piece: &[u8], i: usize, room: &mut [u8]) -> Chunk
+// A part of a piece, from i on, decoded into the room, with its marks, up to its end or as far as they go. What the
+// part holds back begins the next one, and is held back if the piece ends there.
+pub fn decode_chunk(piece: &[u8], i: usize, room: &mut [u8], marks: &mut [u16]) -> Chunk
     requires { ⌜ i < length (now piece) ⌝ }
     requires { ⌜ length (now room) ≡ chunkSize ⌝ }
-    ensures { λ r. ⌜ ChunkIs (now (piece .entry)) i (now (room .entry)) r (now (room .exit)) ⌝ }
+    requires { ⌜ length (now marks) ≡ marksSize ⌝ }
+    ensures { λ r. ⌜ ChunkIs (now (piece .entry)) i (now (room .entry)) r (now (room .exit)) (now (marks .exit)) ⌝ }
 {
     let k = part_end(i, piece.len());
-    let f = decode_tokens(&piece[i..k], room);
+    let f = decode_marked(&piece[i..k], room, marks);
     let after = i + f.read;
+    if f.full {
+        return Chunk {
+            read: after,
+            written: f.written,
+            marks: f.marks,
+            held: false,
+        };
+    }
     if k < piece.len() {
         return Chunk {
             read: after,
             written: f.written,
+            marks: f.marks,
             held: false,
         };
     }
     Chunk {
         read: after,
         written: f.written,
+        marks: f.marks,
         held: after < k,
     }
 }

@@ -2,16 +2,17 @@
 use mathlib.Core.Path.{_≡_, refl, sym, ap, _∙_}
 use mathlib.Core.Bool.{Bool, true, false, true≢false}
 use mathlib.Core.List.{List, [], _∷_}
-use Prim.Native.Nat.{ℕ, _+_, _≤_, _<_}
+use Prim.Native.Nat.{ℕ, _+_, _*_, _/_, _≤_, _<_}
 use native.Mathlib.Omega.{arith}
-use lib.Dec.{ltb, leb}
+use lib.Dec.{ltb, leb, ltb→lt}
 use lib.ListN.{length, take}
 use lib.Seq.{length-take-le}
 use borrow.Author.Tests.{ltb-false, lt-ltb, le-ltb, le-leb, lt-leb}
 use Rattle.model.specs.RefusalNumbers.{tooShort, tooMuch, alreadyFinished}
 use Rattle.model.specs.NumberedAnswers.{textLimit}
 use Rattle.model.specs.References.{formLimit, heldMost, canGrow, heldTail}
-use Rattle.model.proofs.Truth.{T-false}
+use Rattle.model.specs.RawPlaces.{pairNumbers}
+use Rattle.model.proofs.Truth.{T-false, T-to}
 use Rattle.model.proofs.Forms.{not-none}
 use Rattle.model.proofs.Borders.{ref-growing}
 use Rattle.reference_reader.specs.declared.Reference.{Reference}
@@ -113,14 +114,25 @@ module _ (p : List ℕ) (m n : ℕ) where
     too-much b = nonzero tooMuch (λ q. omega arith) (simp (le-ltb _ _ a, b))
 
     module _ (b : ltb textLimit (rawOf p + m) ≡ false) where
-      pub too-short : ltb n (m + heldMost formLimit) ≡ true → PlanRefusedIs p m n tooShort
-      unfolding planRefusal
-      too-short c = nonzero tooShort (λ q. omega arith) (simp (le-ltb _ _ a, b, c))
+      -- what the list holds in pairs is compared with the pairs that are needed
+      in-pairs : (t : Bool) → ltb (n / pairNumbers) (m + heldMost formLimit) ≡ t → ltb n (pairNumbers * (m + heldMost formLimit)) ≡ t
+      in-pairs true c =
+          let l = ltb→lt (n / pairNumbers) (m + heldMost formLimit) (T-to (sym c) tt) in
+          let k : n < pairNumbers * (m + heldMost formLimit) = omega arith in
+          lt-ltb _ _ k
+      in-pairs false c =
+          let l = ltb-false (n / pairNumbers) (m + heldMost formLimit) c in
+          let k : pairNumbers * (m + heldMost formLimit) ≤ n = omega arith in
+          le-ltb _ _ k
 
-      pub accepted : ltb n (m + heldMost formLimit) ≡ false → PlanRefusedIs p m n 0
+      pub too-short : ltb (n / pairNumbers) (m + heldMost formLimit) ≡ true → PlanRefusedIs p m n tooShort
+      unfolding planRefusal
+      too-short c = nonzero tooShort (λ q. omega arith) (simp (le-ltb _ _ a, b, in-pairs true c))
+
+      pub accepted : ltb (n / pairNumbers) (m + heldMost formLimit) ≡ false → PlanRefusedIs p m n 0
       unfolding planRefusal
       accepted c =
           record {
-            is = simp (le-ltb _ _ a, b, c);
-            accepts = λ q. record { going = omega arith; small = ltb-false _ _ b; room = ltb-false _ _ c };
+            is = simp (le-ltb _ _ a, b, in-pairs false c);
+            accepts = λ q. record { going = omega arith; small = ltb-false _ _ b; room = ltb-false _ _ (in-pairs false c) };
           }

@@ -4,7 +4,7 @@ use mathlib.Core.Bool.{true}
 use mathlib.Core.List.{List, [], _∷_, _++_}
 use Prim.Native.Nat.{ℕ, zero, suc, _+_, _*_, _/_, _%_, _^_, _≤_, _<_}
 use native.Mathlib.Omega.{arith}
-use lib.ListN.{length, take, drop, getD}
+use lib.ListN.{length, take, drop, getD, length-append}
 use lib.Pow.{shr-shr}
 use lib.Seq.{take-suc, take-length, getD-drop, drop-drop}
 use borrow.Author.Tests.{le-leb}
@@ -43,6 +43,14 @@ words-at (suc n) zero cs l = refl
 words-at (suc n) (suc k) cs l =
     let m : 8 + 8 * k ≡ 8 * suc k = omega arith in
     words-at n k (drop 8 cs) (omega arith) ∙ ap (λ (t : List ℕ). wordOf (take 8 t)) (drop-drop (8 * k) 8 cs ∙ ap (λ (i : ℕ). drop i cs) m)
+
+-- there are as many held bytes as the count says
+first-long : (p : List ℕ) (n : ℕ) → length (firstHeldOf p n) ≡ n
+first-long p zero = refl
+first-long p (suc n) = omega (arith, first-long p n, length-append (firstHeldOf p n) (heldByteOf p n ∷ []))
+
+pub held-count : (p : List ℕ) → length (heldBytesOf p) ≡ heldCountOf p
+held-count p = first-long p (heldCountOf p)
 
 first-is : (p cs : List ℕ) (n : ℕ) → n ≤ length cs → ((j : ℕ) → j < n → heldByteOf p j ≡ getD cs j 0) → firstHeldOf p n ≡ take n cs
 first-is p cs zero l e = refl

@@ -8,6 +8,7 @@ use lib.Dec.{leb, ltb}
 use lib.ListN.{length, getD, take, drop}
 use Rattle.model.specs.NumberedAnswers.{textLimit}
 use Rattle.model.specs.References.{formLimit, heldMost, heldTail, canGrow}
+use Rattle.model.specs.RawPlaces.{pairNumbers}
 use Rattle.model.specs.PlainScan.{refusalFor}
 use Rattle.piece_decoder.specs.declared.held.Held.{Held}
 use Rattle.piece_decoder.specs.Held.{heldOf}
@@ -149,7 +150,7 @@ pub record Packed (h : Held) (j n r : ℕ) : Type 0 where
 
 -- ---- refused calls
 
--- "a scan call checks .. 12, 10, 9": on a possible part, for a piece of k bytes and a list of n entries; 0 if nothing refuses it
+-- "a scan call checks .. 12, 10, 9": on a possible part, for a piece of k bytes and a list of n numbers; 0 if nothing refuses it
 unfoldable pub planRefusal : List ℕ → (k n : ℕ) → ℕ
 planRefusal p k n = refusalFor formLimit (ltb 0 (finishedOf p)) (rawOf p) k n
 
@@ -157,7 +158,7 @@ planRefusal p k n = refusalFor formLimit (ltb 0 (finishedOf p)) (rawOf p) k n
 pub record PlanAccepts (p : List ℕ) (k n : ℕ) : Type 0 where
   pub going : finishedOf p ≡ 0
   pub small : rawOf p + k ≤ textLimit
-  pub room : k + heldMost formLimit ≤ n
+  pub room : pairNumbers * (k + heldMost formLimit) ≤ n
 
 pub record PlanRefusedIs (p : List ℕ) (k n r : ℕ) : Type 0 where
   pub is : r ≡ planRefusal p k n

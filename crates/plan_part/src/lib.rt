@@ -8,6 +8,7 @@ ghost use Rattle.piece_decoder.specs.Held.{heldOf};
 ghost use Rattle.plan_part.specs.PlanPart.{planLength, heldAt, heldWords, heldByteOf, isTail, BytePlace, LoadFine, LoadIs, PlanPossibleIs, PlanPossible, PlanRefusedIs, HeldFits, Widened, HeldByteIs, PackFine, Packed, wordsOf, planFields};
 use limits::FORM_LIMIT;
 use limits::HELD_MOST;
+use limits::PAIR;
 use piece_decoder::held::Held;
 use reference_reader::Reference;
 
@@ -101,7 +102,8 @@ pub fn possible(part: &[u64]) -> bool
     tail_fits(h)
 }
 
-// The number of the refusal of a call with a piece and a list of these lengths, or 0.
+// The number of the refusal of a call with a piece and a list of these lengths, or 0. The list is counted in pairs, as
+// the numbers that it needs may be past 64 bits.
 pub fn refused(part: &[u64], piece: usize, list: usize) -> u32
     requires { ⌜ PlanPossible (now part) ⌝ }
     requires { ⌜ piece < 2 ^ 63 ⌝ }
@@ -111,7 +113,7 @@ pub fn refused(part: &[u64], piece: usize, list: usize) -> u32
         return answers::ALREADY_FINISHED;
     }
     let over = part[RAW] + piece as u64 > TEXT_LIMIT;
-    let short = list < piece + HELD_MOST;
+    let short = list / PAIR < piece + HELD_MOST;
     if over {
         return answers::TOO_MUCH;
     }

@@ -2,39 +2,49 @@
 use mathlib.Core.Path.{_≡_, sym, ap, ap₂, _∙_}
 use mathlib.Core.Bool.{true, false}
 use mathlib.Core.List.{List}
-use Prim.Native.Nat.{ℕ, _+_, _≤_}
+use Prim.Native.Nat.{ℕ, _+_, _*_, _≤_}
 use native.Mathlib.Nat.{zero-add, add-zero}
 use native.Mathlib.Omega.{arith}
 use lib.Dec.{eqb}
 use lib.ListN.{length}
-use lib.Seq.{sets-eq}
+use lib.Seq.{sets}
 use borrow.Author.Tests.{eq-eqb, ne-eqb}
 use Rattle.model.specs.NumberedAnswers.{overwrite}
+use Rattle.model.specs.References.{joined}
+use Rattle.model.specs.RawPlaces.{flat, pairNumbers}
 use Rattle.model.specs.PlainScan.{Call, feed, finish, pieceOf, listOf}
+use Rattle.model.proofs.LentLists.{sets-overwrite}
+use Rattle.model.proofs.Decoding.{joined-bytes}
+use Rattle.model.proofs.Places.{placed-length, flat-length}
+use Rattle.shift_and_wide.specs.Stepping.{endsInW}
 use Rattle.answers.specs.declared.Answer.{Answer}
 use Rattle.piece_decoder.specs.declared.held.Held.{Held}
 use Rattle.answers.specs.Answers.{refusing, counting}
 use Rattle.piece_decoder.specs.Held.{heldOf, NothingHeld}
-use Rattle.wide_scan.specs.declared.WideProgress.{WideProgress}
-use Rattle.wide_scan.specs.Running.{WideStepped}
+use Rattle.wide_pairs.specs.declared.WideProgress.{WideProgress}
 use Rattle.wide_piece.specs.declared.WideFed.{WideFed}
-use Rattle.scan_value.specs.Value.{automatonIn, rawIn, Fine, RefusedIs, written}
+use Rattle.wide_pairs.specs.Stepping.{Stepped}
+use Rattle.scan_value.specs.Value.{automatonIn, stateIn, rawIn, decodedIn, heldIn, Fine, RefusedIs, written}
 use Rattle.scan_step.specs.Stepping.{startOf, PieceStepped, TailStepped}
-use Rattle.scan.specs.Calls.{numberOf, outOf, tailAfter, finishedAfter, endsOf, Taken, CallIs}
+use Rattle.scan.specs.Calls.{numberOf, outOf, tailAfter, finishedAfter, entriesOf, Taken, CallIs}
 
 -- ---- `feed_accepted`, `finish_accepted`
 
 -- stepping from a scan value's state over what a call lets out, said of the value
-module _ (s ends : List ℕ) (c : Call) (u : WideProgress) (ends′ : List ℕ) (x : WideStepped (automatonIn s) (startOf s) (outOf s c) ends u ends′) where
-  ends-are : length (outOf s c) ≤ length ends → ends′ ≡ overwrite ends (endsOf s c)
-  ends-are h =
-      let n = x .count in
-      let f = x .few in
-      x .list ∙ sets-eq (endsOf s c) ends 0 (omega arith) ∙ rw zero-add
+module _ (s ends : List ℕ) (c : Call) (u : WideProgress) (ends′ : List ℕ) (x : Stepped (automatonIn s) (startOf s) (outOf s c) ends u ends′) where
+  count-is : u .count ≡ length (entriesOf s c)
+  count-is = x .count ∙ zero-add _ ∙ sym (placed-length _ (endsInW (automatonIn s) (stateIn s) (decodedIn s) (joined (outOf s c))))
 
-  taken : length (outOf s c) ≤ length ends → (s′ : List ℕ) → s′ ≡ written s (u .d) (finishedAfter c) (rawIn s + length (pieceOf c)) (u .at) (tailAfter s c)
+  lists-are : pairNumbers * length (joined (outOf s c)) ≤ length ends → ends′ ≡ overwrite ends (flat (entriesOf s c))
+  lists-are h =
+      let f = x .few in
+      let l : length (flat (entriesOf s c)) ≡ pairNumbers * length (entriesOf s c) = flat-length (entriesOf s c) in
+      let z : pairNumbers * 0 ≡ 0 = omega arith in
+      x .list ∙ ap (λ (i : ℕ). sets ends i (flat (entriesOf s c))) z ∙ sets-overwrite ends (flat (entriesOf s c)) (omega (arith, count-is))
+
+  taken : pairNumbers * length (joined (outOf s c)) ≤ length ends → (s′ : List ℕ) → s′ ≡ written s (u .d) (finishedAfter c) (rawIn s + length (pieceOf c)) (u .at) (tailAfter s c)
       → (r : Answer) → r ≡ counting (u .count) 0 → Taken s c ends r s′ ends′
-  taken h s′ e r q = record { answers = q ∙ ap (λ (n : ℕ). counting n 0) (x .count ∙ zero-add _); leaves = e ∙ rw (x .state, x .place); lists = ends-are h }
+  taken h s′ e r q = record { answers = q ∙ ap (λ (n : ℕ). counting n 0) count-is; leaves = e ∙ rw (x .state, x .place); lists = lists-are h }
 
 -- a feed that was stepped, and stored
 module _ (s piece ends : List ℕ) (fine : Fine s (length piece) (length ends)) (f : WideFed) (ends′ : List ℕ) (y : PieceStepped s piece ends f ends′) where
@@ -51,7 +61,7 @@ module _ (s ends : List ℕ) (fine : Fine s 0 (length ends)) (u : WideProgress) 
   finish-stored raw er n x s′ e a q =
       let r = fine .accepts .room in
       let k = fine .possible .plan .few in
-      taken s ends (finish (length ends)) u ends′ (y .steps) (omega (arith, y .few)) s′
+      taken s ends (finish (length ends)) u ends′ (y .steps) (omega (arith, y .few, ap length (joined-bytes (heldIn s)))) s′
       (e ∙ ap₂ (λ (r : ℕ) (h : List ℕ). written s (u .d) 1 r (u .at) h) (er ∙ sym (add-zero (rawIn s))) (x .is)) a q
 
 -- `feed` and `finish`

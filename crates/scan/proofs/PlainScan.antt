@@ -4,7 +4,7 @@ use mathlib.Core.Path.{_≡_, refl, sym, ap, ap₂, subst, _∙_}
 use mathlib.Core.Bool.{Bool, true, false, cond}
 use mathlib.Core.Logic.{inl, inr}
 use mathlib.Core.List.{List, [], _∷_, _++_, append-nil}
-use Prim.Native.Nat.{ℕ, zero, suc, _+_, _≤_, _<_}
+use Prim.Native.Nat.{ℕ, zero, suc, _+_, _-_, _≤_, _<_}
 use native.Mathlib.Numerals.{add-one}
 use native.Mathlib.Omega.{arith}
 use lib.Dec.{eqb, ltb, nltb→le, ltb→lt}
@@ -14,14 +14,15 @@ use Rattle.model.specs.RefusalNumbers.{impossible}
 use Rattle.model.specs.RuleText.{foldFlag, positionLimit, isByte, Element, positions}
 use Rattle.model.specs.NumberedAnswers.{textLimit, Parsed, refused as turned-down, accepted, positionsBy}
 use Rattle.model.specs.Codes.{codesOf, fitting, smudged, parseWith}
-use Rattle.model.specs.References.{formLimit, heldMost, heldTail, withoutTail}
+use Rattle.model.specs.References.{formLimit, heldMost, Token, byteTokens, joined, heldTail, withoutTail}
+use Rattle.model.specs.RawPlaces.{Entry, entriesBy}
 use Rattle.model.specs.PlainScan.{Call, feed, finish, Answer, refused, reported, pieceOf, listOf, refusal, refusalFor, nothingKept, scanFrom, plainScan}
 use Rattle.model.proofs.Fitting.{smudged-ok}
 use Rattle.model.proofs.CodeLaws.{coded-refusal}
 use Rattle.model.proofs.Truth.{branch, and-left, and-right, and-intro}
-use Rattle.model.proofs.Decoding.{decode-length, held-length, tail-joined, held-cut}
+use Rattle.model.proofs.Decoding.{joined-bytes, decode-length, held-length, tail-joined, held-cut}
 use Rattle.model.proofs.Scans as Scans
-use Rattle.model.proofs.Scans.{Scanner, opened, through, finishes, moved, scannerFrom}
+use Rattle.model.proofs.Scans.{Scanner, opened, through, finishes, moved, reports, scannerFrom}
 use Rattle.shift_and.specs.Masks.{Encodes}
 use Rattle.shift_and_wide.specs.declared.Wide.{Wide}
 use Rattle.shift_and_wide.specs.Stepping.{WideAutomaton, numbered, stepOnW, openingStateW, acceptsW, stateAfterW, endsInW}
@@ -29,14 +30,14 @@ use Rattle.shift_and_wide.proofs.Instances.{Fits, wide-is-plain}
 use Rattle.rule_table.specs.Tables.{tableOf}
 use Rattle.rule_table.proofs.Encoded.{table-long, table-fits, table-encodes}
 use Rattle.code_table.proofs.FittedMasks.{smudged-past}
-use Rattle.scan_piece.specs.Feeding.{textOf, tailOf}
+use Rattle.piece_stepping.specs.Stepping.{tokensOf, tailOf}
 use Rattle.rule_part.specs.RulePart.{automatonOfRule, stateOf}
 use Rattle.rule_part.proofs.RuleFields.{rule-possible, fields-automaton, fields-state}
 use Rattle.plan_part.specs.PlanPart.{finishedOf, rawOf, decodedOf, heldBytesOf, planFields, planRefusal}
-use Rattle.plan_part.proofs.Readback.{fields-long as plan-fields-long, fields-finished, fields-raw, fields-decoded, fields-held, fields-possible}
-use Rattle.scan_value.specs.Value.{scanLength, ruleOf, planOf, positionsIn, automatonIn, stateIn, finishedIn, rawIn, decodedIn, heldIn, possible, numberFor}
+use Rattle.plan_part.proofs.Readback.{held-count, fields-long as plan-fields-long, fields-finished, fields-raw, fields-decoded, fields-held, fields-possible}
+use Rattle.scan_value.specs.Value.{scanLength, ruleOf, planOf, positionsIn, automatonIn, stateIn, finishedIn, rawIn, readIn, decodedIn, heldIn, possible, numberFor}
 use Rattle.scan_value.proofs.Readback.{value-rule, value-plan, value-possible, written-automaton, written-state, written-finished, written-raw, written-decoded, written-held, written-long, written-possible}
-use Rattle.scan.specs.Calls.{numberOf, outOf, tailAfter, finishedAfter, endsOf, after, runFrom, Bytes, PiecesAreBytes}
+use Rattle.scan.specs.Calls.{numberOf, outOf, tailAfter, finishedAfter, entriesOf, after, runFrom, Bytes, PiecesAreBytes}
 use Rattle.answers.specs.declared.Opened.{Opened}
 use Rattle.answers.specs.Answers.{refusingRule, acceptingRule}
 use Rattle.scan_open.specs.Opening.{masksFor, automatonFor, openingRule, openingOf, answerBy, leftBy, OpenIs}
@@ -69,8 +70,8 @@ tail-few : (xs : List ℕ) → length (tailOf xs) ≤ heldMost formLimit
 unfolding tailOf
 tail-few xs = held-length formLimit xs
 
-no-longer : (xs : List ℕ) → length (textOf xs) + length (tailOf xs) ≤ length xs
-unfolding textOf tailOf
+no-longer : (xs : List ℕ) → length (joined (tokensOf xs)) + length (tailOf xs) ≤ length xs
+unfolding tokensOf tailOf
 no-longer xs =
     omega (arith, decode-length formLimit (withoutTail formLimit xs), ap length (tail-joined formLimit xs), length-append (withoutTail formLimit xs) (heldTail formLimit xs))
 
@@ -113,9 +114,9 @@ module _ (A : WideAutomaton) (some : 1 ≤ A .top) (few : A .top ≤ positionLim
 
   -- what a call lets out and holds is the scanner's
   out-is : (s : List ℕ) (h : List ℕ) → heldIn s ≡ h → (c : Call) → outOf s c ≡ through formLimit h c .out
-  unfolding textOf
-  out-is s h e (feed piece n) = ap (λ (h : List ℕ). textOf (h ++ piece)) e
-  out-is s h e (finish n) = e
+  unfolding tokensOf
+  out-is s h e (feed piece n) = ap (λ (h : List ℕ). tokensOf (h ++ piece)) e
+  out-is s h e (finish n) = ap byteTokens e
 
   tail-is : (s : List ℕ) (h : List ℕ) → heldIn s ≡ h → (c : Call) → tailAfter s c ≡ through formLimit h c .held
   unfolding tailOf
@@ -134,9 +135,9 @@ module _ (A : WideAutomaton) (some : 1 ≤ A .top) (few : A .top ≤ positionLim
   after-few s (feed piece n) = tail-few (heldIn s ++ piece)
   after-few s (finish n) = omega arith
 
-  after-sum : (s : List ℕ) → decodedIn s + length (heldIn s) ≤ rawIn s → (c : Call) → decodedIn s + length (outOf s c) + length (tailAfter s c) ≤ rawIn s + length (pieceOf c)
+  after-sum : (s : List ℕ) → decodedIn s + length (heldIn s) ≤ rawIn s → (c : Call) → decodedIn s + length (joined (outOf s c)) + length (tailAfter s c) ≤ rawIn s + length (pieceOf c)
   after-sum s a (feed piece n) = omega (arith, no-longer (heldIn s ++ piece), length-append (heldIn s) piece)
-  after-sum s a (finish n) = omega arith
+  after-sum s a (finish n) = omega (arith, ap length (joined-bytes (heldIn s)))
 
   finished-is : (c : Call) → finishedAfter c ≡ flagNumber (finishes formLimit Wide step Top c)
   unfolding flagNumber
@@ -156,10 +157,10 @@ module _ (A : WideAutomaton) (some : 1 ≤ A .top) (few : A .top ≤ positionLim
     mirror-moved : Bytes (pieceOf c) → rawIn s + length (pieceOf c) ≤ textLimit → Mirrors (after s c) (moved formLimit Wide step Top k c)
     mirror-moved b limit =
         let out = through formLimit (k .held) c .out in
-        let D = stateAfterW (automatonIn s) (stateIn s) (outOf s c) in
+        let D = stateAfterW (automatonIn s) (stateIn s) (joined (outOf s c)) in
         let F = finishedAfter c in
         let R = rawIn s + length (pieceOf c) in
-        let C = decodedIn s + length (outOf s c) in
+        let C = decodedIn s + length (joined (outOf s c)) in
         let H = tailAfter s c in
         let short = after-few s c in
         let top : positionsIn s ≡ A .top = ap (λ (q : WideAutomaton). q .top) (x .automaton) in
@@ -175,23 +176,33 @@ module _ (A : WideAutomaton) (some : 1 ≤ A .top) (few : A .top ≤ positionLim
           possible-is = written-possible s (x .long) D F R C H short (bytes-below H by) (after-tail s c) (omega (arith, top)) (omega (arith, top)) (finished-one c) limit sum;
           state =
               written-state s (x .long) D F R C H
-              ∙ ap (λ (a : WideAutomaton). stateAfterW a (stateIn s) (outOf s c)) (x .automaton)
-              ∙ ap₂ (λ (d : Wide) (out : List ℕ). stateAfterW A d out) (x .state) o
-              ∙ runs out (k .state);
+              ∙ ap (λ (a : WideAutomaton). stateAfterW a (stateIn s) (joined (outOf s c))) (x .automaton)
+              ∙ ap₂ (λ (d : Wide) (out : List Token). stateAfterW A d (joined out)) (x .state) o
+              ∙ runs (joined out) (k .state);
           finished = written-finished s (x .long) D F R C H ∙ finished-is c;
           raw = r ∙ ap (λ (i : ℕ). i + length (pieceOf c)) (x .raw);
-          decoded = d ∙ ap₂ (λ (i : ℕ) (out : List ℕ). i + length out) (x .decoded) o;
+          decoded = d ∙ ap₂ (λ (i : ℕ) (out : List Token). i + length (joined out)) (x .decoded) o;
           held = hd ∙ tail-is s (k .held) (x .held) c;
           bytes = subst Bytes (sym hd) by;
           sum = omega (arith, ap length hd);
         }
 
-    ends-are : endsOf s c ≡ Scans.endsIn formLimit Wide step Top (k .state) (k .decoded) (through formLimit (k .held) c .out)
+    ends-are : endsInW (automatonIn s) (stateIn s) (decodedIn s) (joined (outOf s c)) ≡ Scans.endsIn formLimit Wide step Top (k .state) (k .decoded) (joined (through formLimit (k .held) c .out))
     ends-are =
-        ap (λ (a : WideAutomaton). endsInW a (stateIn s) (decodedIn s) (outOf s c)) (x .automaton)
-        ∙ ap₂ (λ (d : Wide) (at : ℕ). endsInW A d at (outOf s c)) (x .state) (x .decoded)
-        ∙ ap (endsInW A (k .state) (k .decoded)) (out-is s (k .held) (x .held) c)
-        ∙ ends-run (through formLimit (k .held) c .out) (k .state) (k .decoded)
+        ap (λ (a : WideAutomaton). endsInW a (stateIn s) (decodedIn s) (joined (outOf s c))) (x .automaton)
+        ∙ ap₂ (λ (d : Wide) (at : ℕ). endsInW A d at (joined (outOf s c))) (x .state) (x .decoded)
+        ∙ ap (λ (out : List Token). endsInW A (k .state) (k .decoded) (joined out)) (out-is s (k .held) (x .held) c)
+        ∙ ends-run (joined (through formLimit (k .held) c .out)) (k .state) (k .decoded)
+
+    -- the raw bytes read
+    read-is : readIn s ≡ k .taken - length (k .held)
+    read-is = omega (arith, x .raw, ap length (x .held), held-count (planOf s))
+
+    entries-are : entriesOf s c ≡ reports formLimit Wide step Top k c
+    entries-are =
+        ap (entriesBy (decodedIn s) (readIn s) (outOf s c)) ends-are
+        ∙ ap₂ (λ (i r : ℕ). entriesBy i r (outOf s c) (Scans.endsIn formLimit Wide step Top (k .state) (k .decoded) (joined (through formLimit (k .held) c .out)))) (x .decoded) read-is
+        ∙ ap (λ (out : List Token). entriesBy (k .decoded) (k .taken - length (k .held)) out (Scans.endsIn formLimit Wide step Top (k .state) (k .decoded) (joined (through formLimit (k .held) c .out)))) (out-is s (k .held) (x .held) c)
 
     numbers : numberOf s c ≡ refusal formLimit (k .finished) (k .taken) c
     unfolding numberFor planRefusal
@@ -207,14 +218,14 @@ module _ (A : WideAutomaton) (some : 1 ≤ A .top) (few : A .top ≤ positionLim
         branch (ltb textLimit (k .taken + length (pieceOf c))) e (λ t q. absurd (omega arith)) λ t e.
         let l = nltb→le textLimit (k .taken + length (pieceOf c)) t in omega arith
 
-  run-zero : (s : List ℕ) (c : Call) (cs : List Call) → numberOf s c ≡ 0 → runFrom s (c ∷ cs) ≡ reported (endsOf s c) ∷ runFrom (after s c) cs
+  run-zero : (s : List ℕ) (c : Call) (cs : List Call) → numberOf s c ≡ 0 → runFrom s (c ∷ cs) ≡ reported (entriesOf s c) ∷ runFrom (after s c) cs
   run-zero s c cs q = rw (q, runFrom)
 
   run-suc : (s : List ℕ) (c : Call) (cs : List Call) (n : ℕ) → numberOf s c ≡ suc n → runFrom s (c ∷ cs) ≡ refused (suc n) ∷ runFrom s cs
   run-suc s c cs n q = rw (q, runFrom)
 
   scanner-zero : (k : Scanner Wide) (c : Call) (cs : List Call) → refusal formLimit (k .finished) (k .taken) c ≡ 0
-      → scannerFrom formLimit Wide step Top k (c ∷ cs) ≡ reported (Scans.endsIn formLimit Wide step Top (k .state) (k .decoded) (through formLimit (k .held) c .out)) ∷ scannerFrom formLimit Wide step Top (moved formLimit Wide step Top k c) cs
+      → scannerFrom formLimit Wide step Top k (c ∷ cs) ≡ reported (reports formLimit Wide step Top k c) ∷ scannerFrom formLimit Wide step Top (moved formLimit Wide step Top k c) cs
   scanner-zero k c cs q = rw (q, scannerFrom)
 
   scanner-suc : (k : Scanner Wide) (c : Call) (cs : List Call) (n : ℕ) → refusal formLimit (k .finished) (k .taken) c ≡ suc n
@@ -229,7 +240,7 @@ module _ (A : WideAutomaton) (some : 1 ≤ A .top) (few : A .top ≤ positionLim
           → runFrom s (c ∷ cs) ≡ scannerFrom formLimit Wide step Top k (c ∷ cs)
       go zero q ih =
           run-zero s c cs (numbers s k x c ∙ q)
-          ∙ ap₂ (λ (a : List ℕ) (l : List Answer). reported a ∷ l) (ends-are s k x c) (ih (after s c) (moved formLimit Wide step Top k c) (mirror-moved s k x c (b .0) (within s k x c q)))
+          ∙ ap₂ (λ (a : List Entry) (l : List Answer). reported a ∷ l) (entries-are s k x c) (ih (after s c) (moved formLimit Wide step Top k c) (mirror-moved s k x c (b .0) (within s k x c q)))
           ∙ sym (scanner-zero k c cs q)
       go (suc n) q ih =
           run-suc s c cs n (numbers s k x c ∙ q)

@@ -9,13 +9,15 @@ use lib.ListN.{length}
 use Rattle.model.specs.Occurrence.{all}
 use Rattle.model.specs.RuleText.{isByte}
 use Rattle.model.specs.NumberedAnswers.{overwrite}
+use Rattle.model.specs.References.{Token, byteTokens, joined}
+use Rattle.model.specs.RawPlaces.{Entry, entriesBy, flat}
 use Rattle.model.specs.PlainScan as Plain
 use Rattle.model.specs.PlainScan.{Call, feed, finish, pieceOf, listOf}
 use Rattle.answers.specs.declared.Answer.{Answer}
 use Rattle.answers.specs.Answers.{refusing, counting}
 use Rattle.shift_and_wide.specs.Stepping.{stateAfterW, endsInW}
-use Rattle.scan_piece.specs.Feeding.{textOf, tailOf}
-use Rattle.scan_value.specs.Value.{automatonIn, stateIn, rawIn, decodedIn, heldIn, written, numberFor}
+use Rattle.piece_stepping.specs.Stepping.{tokensOf, tailOf}
+use Rattle.scan_value.specs.Value.{automatonIn, stateIn, rawIn, readIn, decodedIn, heldIn, written, numberFor}
 
 -- ---- one call on scan value s
 
@@ -23,10 +25,10 @@ use Rattle.scan_value.specs.Value.{automatonIn, stateIn, rawIn, decodedIn, held
 abbrev pub numberOf : (s : List ℕ) → Call → ℕ
 numberOf s c = numberFor s (length (pieceOf c)) (listOf c)
 
--- What it lets out: a feed the text of the held bytes and the piece, "the finish" the held bytes, as they came.
-abbrev pub outOf : (s : List ℕ) → Call → List ℕ
-outOf s (feed piece n) = textOf (heldIn s ++ piece)
-outOf s (finish n) = heldIn s
+-- What it lets out: a feed the tokens of the held bytes and the piece, "the finish" the held bytes, as they came.
+abbrev pub outOf : (s : List ℕ) → Call → List Token
+outOf s (feed piece n) = tokensOf (heldIn s ++ piece)
+outOf s (finish n) = byteTokens (heldIn s)
 
 -- What is held then.
 abbrev pub tailAfter : (s : List ℕ) → Call → List ℕ
@@ -37,28 +39,28 @@ abbrev pub finishedAfter : Call → ℕ
 finishedAfter (feed piece n) = 0
 finishedAfter (finish n) = 1
 
--- The ends that it reports: document 01's step on each byte let out.
-abbrev pub endsOf : (s : List ℕ) → Call → List ℕ
-endsOf s c = endsInW (automatonIn s) (stateIn s) (decodedIn s) (outOf s c)
+-- The pairs that it reports: document 01's step on each byte let out, and each end "with the raw count just past the byte or the whole reference that gave it".
+abbrev pub entriesOf : (s : List ℕ) → Call → List Entry
+entriesOf s c = entriesBy (decodedIn s) (readIn s) (outOf s c) (endsInW (automatonIn s) (stateIn s) (decodedIn s) (joined (outOf s c)))
 
 -- The scan value that it leaves.
 abbrev pub after : (s : List ℕ) → Call → List ℕ
 after s c =
-    written s (stateAfterW (automatonIn s) (stateIn s) (outOf s c)) (finishedAfter c) (rawIn s + length (pieceOf c)) (decodedIn s + length (outOf s c)) (tailAfter s c)
+    written s (stateAfterW (automatonIn s) (stateIn s) (joined (outOf s c))) (finishedAfter c) (rawIn s + length (pieceOf c)) (decodedIn s + length (joined (outOf s c))) (tailAfter s c)
 
 -- ---- contracts
 
 -- An accepted call: the answer, the scan value and the list at exit.
 pub record Taken (s : List ℕ) (c : Call) (ends : List ℕ) (r : Answer) (s′ ends′ : List ℕ) : Type 0 where
-  pub answers : r ≡ counting (length (endsOf s c)) 0
+  pub answers : r ≡ counting (length (entriesOf s c)) 0
   pub leaves : s′ ≡ after s c
-  pub lists : ends′ ≡ overwrite ends (endsOf s c)
+  pub lists : ends′ ≡ overwrite ends (flat (entriesOf s c))
 
 -- Any call: "after a refusal everything lent is as before".
 pub record CallIs (s : List ℕ) (c : Call) (ends : List ℕ) (r : Answer) (s′ ends′ : List ℕ) : Type 0 where
-  pub answers : r ≡ cond (eqb (numberOf s c) 0) (counting (length (endsOf s c)) 0) (refusing (numberOf s c) 0)
+  pub answers : r ≡ cond (eqb (numberOf s c) 0) (counting (length (entriesOf s c)) 0) (refusing (numberOf s c) 0)
   pub leaves : s′ ≡ cond (eqb (numberOf s c) 0) (after s c) s
-  pub lists : ends′ ≡ cond (eqb (numberOf s c) 0) (overwrite ends (endsOf s c)) ends
+  pub lists : ends′ ≡ cond (eqb (numberOf s c) 0) (overwrite ends (flat (entriesOf s c))) ends
 
 abbrev pub FeedTaken : (s piece ends : List ℕ) (r : Answer) (s′ ends′ : List ℕ) → Type 0
 FeedTaken s piece ends r s′ ends′ = Taken s (feed piece (length ends)) ends r s′ ends′
@@ -78,7 +80,7 @@ FinishIs s ends r s′ ends′ = CallIs s (finish (length ends)) ends r s′ end
 abbrev pub runFrom : (s : List ℕ) → List Call → List Plain.Answer
 runFrom s [] = []
 runFrom s (c ∷ cs) = elim (numberOf s c) [
-  | zero ↦ Plain.reported (endsOf s c) ∷ runFrom (after s c) cs
+  | zero ↦ Plain.reported (entriesOf s c) ∷ runFrom (after s c) cs
   | suc n ↦ Plain.refused (suc n) ∷ runFrom s cs
 ]
 

@@ -1,72 +1,20 @@
-// A piece of a plan, after held bytes: what it lets out is decoded and stepped over, and what it holds
-// back is kept. At any table and masks, in one word.
-ghost use Prim.Native.Nat.{_+_, _<_, _≤_, _^_};
+// A piece of a plan, after held bytes: what it lets out is decoded and stepped over, its ends are stored as pairs, and what
+// it holds back is kept. At any table and masks, in one word.
+ghost use Prim.Native.Nat.{_+_, _-_, _<_, _≤_};
 ghost use lib.ListN.{length};
-ghost use Rattle.shift_and_step.specs.Stepping.{automatonOf, TableFits};
-ghost use Rattle.model.specs.References.{utf8};
 ghost use Rattle.prefilter.specs.Soundness.{PrefilterSound};
-ghost use Rattle.reference_reader.specs.Reader.{codeLimit};
 ghost use Rattle.piece_decoder.specs.Held.{HeldFine};
-ghost use Rattle.scan_piece.specs.Feeding.{Stepped, NextPartIs, RestIs, RestFed, FedIs};
+ghost use Rattle.piece_stepping.specs.Stepping.{Space};
+ghost use Rattle.shift_and_step.specs.Stepping.{automatonOf, TableFits};
+ghost use Rattle.scan_pairs.specs.Stepping.{standing};
+ghost use Rattle.scan_piece.specs.Feeding.{NextPartIs, RestIs, RestFed, FedIs};
 use piece_decoder::CHUNK;
+use piece_decoder::MARKS;
 use piece_decoder::held::Held;
 use piece_decoder::held::HeldOutcome;
 use prefilter::Prefilter;
+use scan_pairs::Progress;
 use shift_and_step::Masks;
-
-// Where a call stands: the states, the count of decoded bytes, and the count of ends that it has stored.
-pub struct Progress {
-    pub d: u64,
-    pub at: u32,
-    pub count: usize,
-}
-
-// Steps over `text` by a prefilter, and stores its ends after those stored.
-pub fn step_text(
-    table: &[u64],
-    masks: Masks,
-    filter: Prefilter,
-    g: Progress,
-    text: &[u8],
-    ends: &mut [u32],
-) -> Progress
-    requires { ⌜ TableFits (now table) masks ⌝ }
-    requires { ⌜ g .count + length (now text) ≤ length (now ends) ⌝ }
-    requires { ⌜ g .at + length (now text) < 2 ^ 32 ⌝ }
-    requires { ⌜ PrefilterSound (now table) (masks .repeats) (masks .optional) (masks .top) filter ⌝ }
-    ensures { λ r. ⌜ Stepped (automatonOf (now (table .entry)) masks) g (now (text .entry)) (now (ends .entry)) r (now (ends .exit)) ⌝ }
-{
-    let count = g.count;
-    let r = shift_and_scan::scan_text(table, masks, filter, g.d, g.at, text, &mut ends[count..]);
-    let at = g.at + text.len() as u32;
-    let stored = count + r.count;
-    Progress {
-        d: r.d,
-        at: at,
-        count: stored,
-    }
-}
-
-// Steps over the UTF-8 bytes of a code point.
-fn step_code_point(
-    table: &[u64],
-    masks: Masks,
-    filter: Prefilter,
-    g: Progress,
-    code: u32,
-    ends: &mut [u32],
-) -> Progress
-    requires { ⌜ TableFits (now table) masks ⌝ }
-    requires { ⌜ code < codeLimit ⌝ }
-    requires { ⌜ g .count + length (utf8 code) ≤ length (now ends) ⌝ }
-    requires { ⌜ g .at + length (utf8 code) < 2 ^ 32 ⌝ }
-    requires { ⌜ PrefilterSound (now table) (masks .repeats) (masks .optional) (masks .top) filter ⌝ }
-    ensures { λ r. ⌜ Stepped (automatonOf (now (table .entry)) masks) g (utf8 code) (now (ends .entry)) r (now (ends .exit)) ⌝ }
-{
-    let mut t = [0u8; 4];
-    let n = reference_reader::put_utf8(&mut t, code);
-    step_text(table, masks, filter, g, &t[..n], ends)
-}
 
 // After some bytes of a piece: the state, how far the piece is read, and whether the rest of it is held
 // back.
@@ -88,16 +36,18 @@ fn step_chunk(
     ends: &mut [u32],
 ) -> Next
     requires { ⌜ TableFits (now table) masks ⌝ }
-    requires { ⌜ i < length (now piece) ⌝ }
-    requires { ⌜ g .count + length (now piece) ≤ length (now ends) + i ⌝ }
-    requires { ⌜ g .at + length (now piece) < 2 ^ 32 + i ⌝ }
     requires { ⌜ PrefilterSound (now table) (masks .repeats) (masks .optional) (masks .top) filter ⌝ }
+    requires { ⌜ i < length (now piece) ⌝ }
+    requires { ⌜ Space (standing g) (length (now piece) - i) (length (now ends)) ⌝ }
     ensures { λ r. ⌜ NextPartIs (automatonOf (now (table .entry)) masks) g (now (piece .entry)) i (now (ends .entry)) r (now (ends .exit)) ⌝ }
 {
     let mut room = [0u8; CHUNK];
-    let f = piece_decoder::decode_chunk(piece, i, &mut room);
+    let mut marks = [0u16; MARKS];
+    let f = piece_decoder::decode_chunk(piece, i, &mut room, &mut marks);
     let n = f.written;
-    let s = step_text(table, masks, filter, g, &room[0..n], ends);
+    let m = f.marks;
+    let took = (f.read - i) as u32;
+    let s = scan_pairs::step_decoded(table, masks, filter, g, &room[0..n], &marks, m, took, ends);
     Next {
         state: s,
         read: f.read,
@@ -116,15 +66,14 @@ fn next_part(
     ends: &mut [u32],
 ) -> Next
     requires { ⌜ TableFits (now table) masks ⌝ }
-    requires { ⌜ i < length (now piece) ⌝ }
-    requires { ⌜ g .count + length (now piece) ≤ length (now ends) + i ⌝ }
-    requires { ⌜ g .at + length (now piece) < 2 ^ 32 + i ⌝ }
     requires { ⌜ PrefilterSound (now table) (masks .repeats) (masks .optional) (masks .top) filter ⌝ }
+    requires { ⌜ i < length (now piece) ⌝ }
+    requires { ⌜ Space (standing g) (length (now piece) - i) (length (now ends)) ⌝ }
     ensures { λ r. ⌜ NextPartIs (automatonOf (now (table .entry)) masks) g (now (piece .entry)) i (now (ends .entry)) r (now (ends .exit)) ⌝ }
 {
     let e = piece_decoder::literal_chunk(piece, i);
     if i < e {
-        let s = step_text(table, masks, filter, g, &piece[i..e], ends);
+        let s = scan_pairs::step_literals(table, masks, filter, g, &piece[i..e], ends);
         return Next {
             state: s,
             read: e,
@@ -151,10 +100,9 @@ fn scan_rest(
     ends: &mut [u32],
 ) -> Rest
     requires { ⌜ TableFits (now table) masks ⌝ }
-    requires { ⌜ from ≤ length (now piece) ⌝ }
-    requires { ⌜ g .count + length (now piece) ≤ length (now ends) + from ⌝ }
-    requires { ⌜ g .at + length (now piece) < 2 ^ 32 + from ⌝ }
     requires { ⌜ PrefilterSound (now table) (masks .repeats) (masks .optional) (masks .top) filter ⌝ }
+    requires { ⌜ from ≤ length (now piece) ⌝ }
+    requires { ⌜ Space (standing g) (length (now piece) - from) (length (now ends)) ⌝ }
     ensures { λ r. ⌜ RestIs (automatonOf (now (table .entry)) masks) g (now (piece .entry)) from (now (ends .entry)) r (now (ends .exit)) ⌝ }
 {
     let mut s = g;
@@ -191,10 +139,9 @@ fn feed_rest(
     ends: &mut [u32],
 ) -> Fed
     requires { ⌜ TableFits (now table) masks ⌝ }
-    requires { ⌜ from ≤ length (now piece) ⌝ }
-    requires { ⌜ g .count + length (now piece) ≤ length (now ends) + from ⌝ }
-    requires { ⌜ g .at + length (now piece) < 2 ^ 32 + from ⌝ }
     requires { ⌜ PrefilterSound (now table) (masks .repeats) (masks .optional) (masks .top) filter ⌝ }
+    requires { ⌜ from ≤ length (now piece) ⌝ }
+    requires { ⌜ Space (standing g) (length (now piece) - from) (length (now ends)) ⌝ }
     ensures { λ r. ⌜ RestFed (automatonOf (now (table .entry)) masks) g (now (piece .entry)) from (now (ends .entry)) r (now (ends .exit)) ⌝ }
 {
     let r = scan_rest(table, masks, filter, g, piece, from, ends);
@@ -217,23 +164,23 @@ fn feed_held(
     ends: &mut [u32],
 ) -> Fed
     requires { ⌜ TableFits (now table) masks ⌝ }
-    requires { ⌜ HeldFine h ⌝ }
-    requires { ⌜ g .count + h .len + length (now piece) ≤ length (now ends) ⌝ }
-    requires { ⌜ g .at + h .len + length (now piece) < 2 ^ 32 ⌝ }
     requires { ⌜ PrefilterSound (now table) (masks .repeats) (masks .optional) (masks .top) filter ⌝ }
+    requires { ⌜ HeldFine h ⌝ }
+    requires { ⌜ Space (standing g) (h .len + length (now piece)) (length (now ends)) ⌝ }
     ensures { λ r. ⌜ FedIs (automatonOf (now (table .entry)) masks) g h (now (piece .entry)) (now (ends .entry)) r (now (ends .exit)) ⌝ }
 {
     let x = piece_decoder::held::resolve_held(h, piece);
     let case = x.case;
     match case {
         HeldOutcome::Completed(code, taken) => {
-            let s = step_code_point(table, masks, filter, g, code, ends);
+            let k = h.len + taken;
+            let s = scan_pairs::step_code_point(table, masks, filter, g, code, k, ends);
             return feed_rest(table, masks, filter, s, piece, taken, ends);
         }
         HeldOutcome::Literal => {
             let b = h.bytes;
             let l = h.len;
-            let s = step_text(table, masks, filter, g, &b[..l], ends);
+            let s = scan_pairs::step_literals(table, masks, filter, g, &b[..l], ends);
             return feed_rest(table, masks, filter, s, piece, 0, ends);
         }
         HeldOutcome::Pending => {
@@ -254,10 +201,9 @@ pub fn feed_bytes(
     ends: &mut [u32],
 ) -> Fed
     requires { ⌜ TableFits (now table) masks ⌝ }
-    requires { ⌜ HeldFine h ⌝ }
-    requires { ⌜ g .count + h .len + length (now piece) ≤ length (now ends) ⌝ }
-    requires { ⌜ g .at + h .len + length (now piece) < 2 ^ 32 ⌝ }
     requires { ⌜ PrefilterSound (now table) (masks .repeats) (masks .optional) (masks .top) filter ⌝ }
+    requires { ⌜ HeldFine h ⌝ }
+    requires { ⌜ Space (standing g) (h .len + length (now piece)) (length (now ends)) ⌝ }
     ensures { λ r. ⌜ FedIs (automatonOf (now (table .entry)) masks) g h (now (piece .entry)) (now (ends .entry)) r (now (ends .exit)) ⌝ }
 {
     let n = h.len;

@@ -5,9 +5,9 @@ ghost use lib.ListN.{length};
 ghost use Rattle.scan_value.specs.Value.{Possible, Fine};
 ghost use Rattle.scan_step.specs.Stepping.{startOf, lowStartOf, LowFine, PieceStepped, TailStepped};
 use prefilter::Prefilter;
-use scan_piece::Progress;
+use scan_pairs::Progress;
+use wide_pairs::WideProgress;
 use wide_piece::WideFed;
-use wide_scan::WideProgress;
 
 // Where a call stands before its first byte, as far as the lowest word goes.
 fn start_low(scan: &[u64]) -> Progress
@@ -16,9 +16,11 @@ fn start_low(scan: &[u64]) -> Progress
 {
     let d = scan_value::state_of(scan);
     let before = scan_value::decoded_of(scan) as u32;
+    let read = scan_value::read_of(scan) as u32;
     Progress {
         d: d.w0,
         at: before,
+        raw: read,
         count: 0,
     }
 }
@@ -30,9 +32,11 @@ fn start(scan: &[u64]) -> WideProgress
 {
     let d = scan_value::state_of(scan);
     let at = scan_value::decoded_of(scan) as u32;
+    let raw = scan_value::read_of(scan) as u32;
     WideProgress {
         d: d,
         at: at,
+        raw: raw,
         count: 0,
     }
 }
@@ -51,6 +55,7 @@ fn step_piece_low(scan: &[u64], filter: Prefilter, piece: &[u8], ends: &mut [u32
     let state = WideProgress {
         d: wide_prefilter::low_of(u.d),
         at: u.at,
+        raw: u.raw,
         count: u.count,
     };
     WideFed {
@@ -94,5 +99,5 @@ pub fn step_tail(scan: &[u64], ends: &mut [u32]) -> WideProgress
     let g = start(scan);
     let b = h.bytes;
     let n = h.len;
-    wide_scan::step_short(&scan[..scan_value::PLAN], g, &b[..n], ends)
+    wide_pairs::step_short(&scan[..scan_value::PLAN], g, &b[..n], ends)
 }

@@ -2,7 +2,7 @@
 use mathlib.Core.Path.{_≡_, sym, ap, subst, _∙_}
 use mathlib.Core.Bool.{Bool, true, false, true≢false}
 use mathlib.Core.List.{List}
-use Prim.Native.Nat.{ℕ, _+_, _-_, _<_}
+use Prim.Native.Nat.{ℕ, _+_, _-_, _≤_, _<_}
 use native.Mathlib.Omega.{arith}
 use lib.ListN.{length, drop, getD, length-drop}
 use lib.Seq.{take-all, getD-take, getD-drop, length-take-le}
@@ -13,8 +13,8 @@ use Rattle.piece_decoder.specs.declared.held.Held.{Held}
 use Rattle.shift_and_wide.specs.declared.Wide.{Wide}
 use Rattle.shift_and_wide.proofs.Wides.{same}
 use Rattle.rule_part.specs.RulePart.{repeatsAt, optionalAt, positionsAt, ruleLength, stateAt, wordsAt, RulePossibleIs}
-use Rattle.plan_part.specs.PlanPart.{planLength, rawAt, decodedAt, LoadFine, LoadIs, PlanPossible, PlanPossibleIs, PlanRefusedIs}
-use Rattle.scan_value.specs.Value.{scanLength, ruleOf, planOf, lowMasksIn, stateIn, rawIn, decodedIn, possible, Possible, PossibleIs, numberFor, RefusedIs}
+use Rattle.plan_part.specs.PlanPart.{planLength, rawAt, decodedAt, heldCountAt, LoadFine, LoadIs, PlanPossible, PlanPossibleIs, PlanRefusedIs}
+use Rattle.scan_value.specs.Value.{scanLength, ruleOf, planOf, lowMasksIn, stateIn, rawIn, readIn, decodedIn, heldCountIn, possible, Possible, PossibleIs, numberFor, RefusedIs}
 
 -- ---- the two parts
 
@@ -47,6 +47,15 @@ module _ (s : List ℕ) where
 
   pub raw-read : getD s (ruleLength + rawAt) 0 ≡ rawIn s
   raw-read = sym (getD-drop ruleLength s rawAt 0)
+
+  held-count-read : getD s (ruleLength + heldCountAt) 0 ≡ heldCountIn s
+  held-count-read = sym (getD-drop ruleLength s heldCountAt 0)
+
+  pub held-within : Possible s → getD s (ruleLength + heldCountAt) 0 ≤ getD s (ruleLength + rawAt) 0
+  held-within x = let q = x .plan .sum in omega (arith, raw-read, held-count-read)
+
+  pub read-is : getD s (ruleLength + rawAt) 0 - getD s (ruleLength + heldCountAt) 0 ≡ readIn s
+  read-is = omega (arith, raw-read, held-count-read)
 
   pub decoded-read : getD s (ruleLength + decodedAt) 0 ≡ decodedIn s
   decoded-read = sym (getD-drop ruleLength s decodedAt 0)

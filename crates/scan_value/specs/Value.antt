@@ -3,7 +3,7 @@
 use mathlib.Core.Path.{_≡_}
 use mathlib.Core.Bool.{Bool, true, cond, _&&_}
 use mathlib.Core.List.{List, _++_}
-use Prim.Native.Nat.{ℕ, _+_}
+use Prim.Native.Nat.{ℕ, _+_, _-_}
 use lib.Dec.{eqb}
 use lib.ListN.{length, take, drop}
 use Rattle.model.specs.RefusalNumbers.{impossible}
@@ -61,6 +61,10 @@ heldCountIn s = heldCountOf (planOf s)
 abbrev pub heldIn : List ℕ → List ℕ
 heldIn s = heldBytesOf (planOf s)
 
+-- the raw bytes read: those taken, without those held back
+abbrev pub readIn : List ℕ → ℕ
+readIn s = rawIn s - heldCountIn s
+
 -- ---- how it is written
 
 -- D and the plan's part written anew
@@ -86,7 +90,7 @@ pub record PossibleIs (s : List ℕ) (r : Bool) : Type 0 where
 
 -- ---- refused calls
 
--- "a scan call checks 11, 12, 10, 9": for a piece of p bytes and a list of n entries; 0 if nothing refuses it
+-- "a scan call checks 11, 12, 10, 9": for a piece of p bytes and a list of n numbers; 0 if nothing refuses it
 unfoldable pub numberFor : List ℕ → (p n : ℕ) → ℕ
 numberFor s p n = cond (possible s) (planRefusal (planOf s) p n) impossible
 

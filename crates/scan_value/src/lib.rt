@@ -5,7 +5,7 @@ ghost use Prim.Native.Nat.{_<_, _^_};
 ghost use lib.ListN.{length};
 ghost use Rattle.piece_decoder.specs.Held.{heldOf};
 ghost use Rattle.plan_part.specs.PlanPart.{LoadIs, HeldFits};
-ghost use Rattle.scan_value.specs.Value.{scanLength, planOf, lowMasksIn, stateIn, rawIn, decodedIn, Possible, PossibleIs, RefusedIs, written};
+ghost use Rattle.scan_value.specs.Value.{scanLength, planOf, lowMasksIn, stateIn, rawIn, readIn, decodedIn, Possible, PossibleIs, RefusedIs, written};
 use piece_decoder::held::Held;
 use shift_and_step::Masks;
 use shift_and_wide::Wide;
@@ -41,6 +41,14 @@ pub fn raw_of(scan: &[u64]) -> u64
     ensures { λ r. ⌜ r ≡ rawIn (now (scan .entry)) ⌝ }
 {
     scan[PLAN + plan_part::RAW]
+}
+
+// The count of raw bytes read: those taken, without those held back.
+pub fn read_of(scan: &[u64]) -> u64
+    requires { ⌜ Possible (now scan) ⌝ }
+    ensures { λ r. ⌜ r ≡ readIn (now (scan .entry)) ⌝ }
+{
+    scan[PLAN + plan_part::RAW] - scan[PLAN + plan_part::HELD]
 }
 
 // The count of bytes decoded.

@@ -2,15 +2,16 @@
 use mathlib.Core.Path.{_≡_, refl, sym, ap, subst, _∙_}
 use mathlib.Core.Bool.{Bool, true, false, cond}
 use mathlib.Core.List.{List, [], _∷_, _++_}
-use Prim.Native.Nat.{ℕ}
+use Prim.Native.Nat.{ℕ, _*_}
 use lib.Dec.{eqb, eqb→eq}
 use lib.ListN.{take}
 use Rattle.model.specs.PlainScan as Plain
+use Rattle.model.specs.RawPlaces.{pairNumbers, pairsOf}
 use Rattle.model.specs.PlainScan.{Call, refused, reported}
 use Rattle.model.proofs.Truth.{T-to}
 use Rattle.answers.specs.declared.Answer.{Answer}
 use Rattle.scan.specs.Calls.{runFrom}
-use Rattle.agreement.specs.Agreement.{Made, Met, HandedOn, callsOf, endsOf, Agrees, AllAgree}
+use Rattle.agreement.specs.Agreement.{Made, Met, HandedOn, callsOf, entriesOf, Agrees, AllAgree}
 use Rattle.agreement.proofs.MadeCalls.{agree}
 use Rattle.venues.specs.Venues.{Host, Event, offers, idles, serves, finishes, next, Happens, callsTo, SameAnswers}
 
@@ -32,9 +33,9 @@ handed-on (finishes g c ∷ es) h m f = one h c g f (m .0 .1) (callsTo f es) (ha
 
 -- ---- the same answers
 
-same : (c d : Made) (a : Plain.Answer) → Agrees c a → Agrees d a → (c .answer ≡ d .answer) × (endsOf c ≡ endsOf d)
+same : (c d : Made) (a : Plain.Answer) → Agrees c a → Agrees d a → (c .answer ≡ d .answer) × (entriesOf c ≡ entriesOf d)
 same c d (refused n) x y =
-    let none : (e : Made) → Agrees e (refused n) → endsOf e ≡ [] = λ e z. ap (λ (r : Answer). take (r .count) (e .list)) z in
+    let none : (e : Made) → Agrees e (refused n) → entriesOf e ≡ [] = λ e z. ap (λ (r : Answer). pairsOf (take (pairNumbers * r .count) (e .list))) z in
     (x ∙ sym y, none c x ∙ sym (none d y))
 same c d (reported es) x y = (x .0 ∙ sym (y .0), x .1 ∙ sym (y .1))
 

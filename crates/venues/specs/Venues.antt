@@ -13,7 +13,7 @@ use Rattle.answers.specs.declared.Opened.{Opened}
 use Rattle.answers.specs.declared.Served.{Served}
 use Rattle.scan_open.specs.Opening.{OpenIs}
 use Rattle.scan.specs.Calls.{Bytes}
-use Rattle.agreement.specs.Agreement.{Request, feeding, finishing, Made, Met, HandedOn, callsOf, endsOf, AllAgree}
+use Rattle.agreement.specs.Agreement.{Request, feeding, finishing, Made, Met, HandedOn, callsOf, entriesOf, AllAgree}
 use Rattle.dispatcher.specs.Dispatching.{handed, OfferIs, TurnIs}
 
 -- ---- a host
@@ -120,7 +120,7 @@ abbrev pub SameAnswers : List Made → List Made → Type 0
 SameAnswers [] [] = Unit {0}
 SameAnswers [] (d ∷ ds) = ⊥
 SameAnswers (c ∷ cs) [] = ⊥
-SameAnswers (c ∷ cs) (d ∷ ds) = (c .answer ≡ d .answer) × (endsOf c ≡ endsOf d) × SameAnswers cs ds
+SameAnswers (c ∷ cs) (d ∷ ds) = (c .answer ≡ d .answer) × (entriesOf c ≡ entriesOf d) × SameAnswers cs ds
 
 -- ---- the claim
 

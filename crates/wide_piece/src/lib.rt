@@ -1,37 +1,19 @@
-// A piece of a plan, after held bytes, in four words: what it lets out is decoded and stepped over, and what it holds
-// back is kept. At any table and masks, as the rule's part of a scan value has them.
-ghost use Prim.Native.Nat.{_+_, _<_, _≤_, _^_};
+// A piece of a plan, after held bytes, in four words: what it lets out is decoded and stepped over, its ends are stored as
+// pairs, and what it holds back is kept. At any table and masks, as the rule's part of a scan value has them.
+ghost use Prim.Native.Nat.{_+_, _-_, _<_, _≤_};
 ghost use lib.ListN.{length};
-ghost use Rattle.rule_part.specs.RulePart.{automatonOfRule};
-ghost use Rattle.model.specs.References.{utf8};
-ghost use Rattle.wide_scan.specs.Running.{WideStepped, RuleFits};
-ghost use Rattle.reference_reader.specs.Reader.{codeLimit};
 ghost use Rattle.piece_decoder.specs.Held.{HeldFine};
+ghost use Rattle.piece_stepping.specs.Stepping.{Space};
+ghost use Rattle.rule_part.specs.RulePart.{automatonOfRule};
+ghost use Rattle.wide_scan.specs.Running.{RuleFits};
+ghost use Rattle.wide_pairs.specs.Stepping.{standing};
 ghost use Rattle.wide_piece.specs.Feeding.{NextPartIs, RestIs, RestFed, FedIs};
 use piece_decoder::CHUNK;
+use piece_decoder::MARKS;
 use piece_decoder::held::Held;
 use piece_decoder::held::HeldOutcome;
+use wide_pairs::WideProgress;
 use wide_prefilter::WidePrefilter;
-use wide_scan::WideProgress;
-
-// Steps over the UTF-8 bytes of a code point.
-fn step_code_point(
-    rule: &[u64],
-    filter: WidePrefilter,
-    g: WideProgress,
-    code: u32,
-    ends: &mut [u32],
-) -> WideProgress
-    requires { ⌜ RuleFits (now rule) filter ⌝ }
-    requires { ⌜ code < codeLimit ⌝ }
-    requires { ⌜ g .count + length (utf8 code) ≤ length (now ends) ⌝ }
-    requires { ⌜ g .at + length (utf8 code) < 2 ^ 32 ⌝ }
-    ensures { λ r. ⌜ WideStepped (automatonOfRule (now (rule .entry))) g (utf8 code) (now (ends .entry)) r (now (ends .exit)) ⌝ }
-{
-    let mut t = [0u8; 4];
-    let n = reference_reader::put_utf8(&mut t, code);
-    wide_scan::step_text(rule, filter, g, &t[..n], ends)
-}
 
 // After some bytes of a piece: the state, how far the piece is read, and whether the rest of it is held
 // back.
@@ -53,14 +35,16 @@ fn step_chunk(
 ) -> Next
     requires { ⌜ RuleFits (now rule) filter ⌝ }
     requires { ⌜ i < length (now piece) ⌝ }
-    requires { ⌜ g .count + length (now piece) ≤ length (now ends) + i ⌝ }
-    requires { ⌜ g .at + length (now piece) < 2 ^ 32 + i ⌝ }
+    requires { ⌜ Space (standing g) (length (now piece) - i) (length (now ends)) ⌝ }
     ensures { λ r. ⌜ NextPartIs (automatonOfRule (now (rule .entry))) g (now (piece .entry)) i (now (ends .entry)) r (now (ends .exit)) ⌝ }
 {
     let mut room = [0u8; CHUNK];
-    let f = piece_decoder::decode_chunk(piece, i, &mut room);
+    let mut marks = [0u16; MARKS];
+    let f = piece_decoder::decode_chunk(piece, i, &mut room, &mut marks);
     let n = f.written;
-    let s = wide_scan::step_text(rule, filter, g, &room[0..n], ends);
+    let m = f.marks;
+    let took = (f.read - i) as u32;
+    let s = wide_pairs::step_decoded(rule, filter, g, &room[0..n], &marks, m, took, ends);
     Next {
         state: s,
         read: f.read,
@@ -79,13 +63,12 @@ fn next_part(
 ) -> Next
     requires { ⌜ RuleFits (now rule) filter ⌝ }
     requires { ⌜ i < length (now piece) ⌝ }
-    requires { ⌜ g .count + length (now piece) ≤ length (now ends) + i ⌝ }
-    requires { ⌜ g .at + length (now piece) < 2 ^ 32 + i ⌝ }
+    requires { ⌜ Space (standing g) (length (now piece) - i) (length (now ends)) ⌝ }
     ensures { λ r. ⌜ NextPartIs (automatonOfRule (now (rule .entry))) g (now (piece .entry)) i (now (ends .entry)) r (now (ends .exit)) ⌝ }
 {
     let e = piece_decoder::literal_chunk(piece, i);
     if i < e {
-        let s = wide_scan::step_text(rule, filter, g, &piece[i..e], ends);
+        let s = wide_pairs::step_literals(rule, filter, g, &piece[i..e], ends);
         return Next {
             state: s,
             read: e,
@@ -112,8 +95,7 @@ fn scan_rest(
 ) -> Rest
     requires { ⌜ RuleFits (now rule) filter ⌝ }
     requires { ⌜ from ≤ length (now piece) ⌝ }
-    requires { ⌜ g .count + length (now piece) ≤ length (now ends) + from ⌝ }
-    requires { ⌜ g .at + length (now piece) < 2 ^ 32 + from ⌝ }
+    requires { ⌜ Space (standing g) (length (now piece) - from) (length (now ends)) ⌝ }
     ensures { λ r. ⌜ RestIs (automatonOfRule (now (rule .entry))) g (now (piece .entry)) from (now (ends .entry)) r (now (ends .exit)) ⌝ }
 {
     let mut s = g;
@@ -150,8 +132,7 @@ fn feed_rest(
 ) -> WideFed
     requires { ⌜ RuleFits (now rule) filter ⌝ }
     requires { ⌜ from ≤ length (now piece) ⌝ }
-    requires { ⌜ g .count + length (now piece) ≤ length (now ends) + from ⌝ }
-    requires { ⌜ g .at + length (now piece) < 2 ^ 32 + from ⌝ }
+    requires { ⌜ Space (standing g) (length (now piece) - from) (length (now ends)) ⌝ }
     ensures { λ r. ⌜ RestFed (automatonOfRule (now (rule .entry))) g (now (piece .entry)) from (now (ends .entry)) r (now (ends .exit)) ⌝ }
 {
     let r = scan_rest(rule, filter, g, piece, from, ends);
@@ -174,21 +155,21 @@ fn feed_held(
 ) -> WideFed
     requires { ⌜ RuleFits (now rule) filter ⌝ }
     requires { ⌜ HeldFine h ⌝ }
-    requires { ⌜ g .count + h .len + length (now piece) ≤ length (now ends) ⌝ }
-    requires { ⌜ g .at + h .len + length (now piece) < 2 ^ 32 ⌝ }
+    requires { ⌜ Space (standing g) (h .len + length (now piece)) (length (now ends)) ⌝ }
     ensures { λ r. ⌜ FedIs (automatonOfRule (now (rule .entry))) g h (now (piece .entry)) (now (ends .entry)) r (now (ends .exit)) ⌝ }
 {
     let x = piece_decoder::held::resolve_held(h, piece);
     let case = x.case;
     match case {
         HeldOutcome::Completed(code, taken) => {
-            let s = step_code_point(rule, filter, g, code, ends);
+            let k = h.len + taken;
+            let s = wide_pairs::step_code_point(rule, filter, g, code, k, ends);
             return feed_rest(rule, filter, s, piece, taken, ends);
         }
         HeldOutcome::Literal => {
             let b = h.bytes;
             let l = h.len;
-            let s = wide_scan::step_text(rule, filter, g, &b[..l], ends);
+            let s = wide_pairs::step_literals(rule, filter, g, &b[..l], ends);
             return feed_rest(rule, filter, s, piece, 0, ends);
         }
         HeldOutcome::Pending => {
@@ -209,8 +190,7 @@ pub fn feed_bytes(
 ) -> WideFed
     requires { ⌜ RuleFits (now rule) filter ⌝ }
     requires { ⌜ HeldFine h ⌝ }
-    requires { ⌜ g .count + h .len + length (now piece) ≤ length (now ends) ⌝ }
-    requires { ⌜ g .at + h .len + length (now piece) < 2 ^ 32 ⌝ }
+    requires { ⌜ Space (standing g) (h .len + length (now piece)) (length (now ends)) ⌝ }
     ensures { λ r. ⌜ FedIs (automatonOfRule (now (rule .entry))) g h (now (piece .entry)) (now (ends .entry)) r (now (ends .exit)) ⌝ }
 {
     let n = h.len;

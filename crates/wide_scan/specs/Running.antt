@@ -11,7 +11,7 @@ use Rattle.shift_and_wide.specs.declared.Wide.{Wide}
 use Rattle.shift_and_wide.specs.declared.WideMasks.{WideMasks}
 use Rattle.shift_and_wide.specs.Stepping.{WideAutomaton, wideAutomatonOf, WideTableFits, stateAfterW, endsInW}
 use Rattle.wide_scan.specs.declared.WideResult.{WideResult}
-use Rattle.wide_scan.specs.declared.WideProgress.{WideProgress}
+use Rattle.wide_scan.specs.declared.WideRun.{WideRun}
 use Rattle.wide_scan.specs.declared.Attempt.{Attempt}
 use Rattle.wide_prefilter.specs.declared.WidePrefilter.{WidePrefilter}
 use Rattle.wide_prefilter.specs.Choosing.{LowSound, WideSound}
@@ -24,7 +24,7 @@ pub record WideScanned (A : WideAutomaton) (d : Wide) (at : ℕ) (text ends : Li
   pub list : ends′ ≡ sets ends 0 (endsInW A d at text)
 
 -- from state g over some decoded bytes
-pub record WideStepped (A : WideAutomaton) (g : WideProgress) (text ends : List ℕ) (r : WideProgress) (ends′ : List ℕ) : Type 0 where
+pub record WideStepped (A : WideAutomaton) (g : WideRun) (text ends : List ℕ) (r : WideRun) (ends′ : List ℕ) : Type 0 where
   pub state : r .d ≡ stateAfterW A (g .d) text
   pub place : r .at ≡ g .at + length text
   pub count : r .count ≡ g .count + length (endsInW A (g .d) (g .at) text)
@@ -42,13 +42,13 @@ pub record AttemptIs (t : List ℕ) (m : WideMasks) (d : Wide) (text : List ℕ)
 
 -- ---- parts
 
-pub record PartFits (t : List ℕ) (m : WideMasks) (p : Prefilter) (g : WideProgress) (len listed : ℕ) : Type 0 where
+pub record PartFits (t : List ℕ) (m : WideMasks) (p : Prefilter) (g : WideRun) (len listed : ℕ) : Type 0 where
   pub plan : LowSound t m p
   pub top : m .top < 256
   pub space : g .count + len ≤ listed
   pub fits : g .at + len < 2 ^ 32
 
-pub record PartIs (t : List ℕ) (m : WideMasks) (g : WideProgress) (text ends room : List ℕ) (r : WideProgress) (ends′ room′ : List ℕ) : Type 0 where
+pub record PartIs (t : List ℕ) (m : WideMasks) (g : WideRun) (text ends room : List ℕ) (r : WideRun) (ends′ room′ : List ℕ) : Type 0 where
   pub steps : WideStepped (wideAutomatonOf t m) g text ends r ends′
   pub same : length room′ ≡ length room
 

@@ -8,7 +8,6 @@ ghost use Rattle.wide_prefilter.specs.Choosing.{LowSound};
 ghost use Rattle.rule_part.specs.RulePart.{automatonOfRule};
 ghost use Rattle.shift_and_wide.specs.Stepping.{wideAutomatonOf};
 use prefilter::Prefilter;
-use scan_piece::Progress;
 use shift_and_wide::Wide;
 use shift_and_wide::WideMasks;
 use wide_prefilter::SHORT;
@@ -56,21 +55,15 @@ fn scan_words(
     WideResult { d: d, count: n }
 }
 
-// Where a call stands: the states, the count of decoded bytes, and the count of ends that it has stored.
-pub struct WideProgress {
+// Where a run stands: the states, the count of decoded bytes, and the count of ends that it has stored.
+pub struct WideRun {
     pub d: Wide,
     pub at: u32,
     pub count: usize,
 }
 
 // Steps over `text` in four words, and stores its ends after those stored.
-fn step_words(
-    table: &[u64],
-    m: WideMasks,
-    g: WideProgress,
-    text: &[u8],
-    ends: &mut [u32],
-) -> WideProgress
+fn step_words(table: &[u64], m: WideMasks, g: WideRun, text: &[u8], ends: &mut [u32]) -> WideRun
     requires { ⌜ length (now table) ≡ 1024 ⌝ }
     requires { ⌜ m .top < 256 ⌝ }
     requires { ⌜ g .count + length (now text) ≤ length (now ends) ⌝ }
@@ -83,7 +76,7 @@ fn step_words(
     let at = g.at + text.len() as u32;
     let stored = count + r.count;
     let after = r.d;
-    WideProgress {
+    WideRun {
         d: after,
         at: at,
         count: stored,
@@ -113,12 +106,7 @@ fn try_one_word(
 {
     if wide_prefilter::is_quiet(d) {
         let one = wide_prefilter::low_masks(m, 63);
-        let start = Progress {
-            d: d.w0,
-            at: 0,
-            count: 0,
-        };
-        let r = scan_piece::step_text(&table[0..256], one, p, start, text, room);
+        let r = shift_and_scan::scan_text(&table[0..256], one, p, d.w0, 0, text, room);
         let none = r.count == 0;
         return Attempt {
             done: none,
@@ -140,7 +128,7 @@ const WAIT: usize = 5;
 // After a part: the state, and the wait: 0 where the last try was quiet, 1 where a short part is to be tried, and
 // else one more than the parts to be done in four words first.
 pub struct Part {
-    pub state: WideProgress,
+    pub state: WideRun,
     pub wait: usize,
 }
 
@@ -149,7 +137,7 @@ fn step_part(
     table: &[u64],
     m: WideMasks,
     p: Prefilter,
-    g: WideProgress,
+    g: WideRun,
     text: &[u8],
     ends: &mut [u32],
     room: &mut [u32],
@@ -172,7 +160,7 @@ fn step_part(
     if a.done {
         let last = a.d;
         let at = g.at + text.len() as u32;
-        let quiet = WideProgress {
+        let quiet = WideRun {
             d: last,
             at: at,
             count: g.count,
@@ -211,10 +199,10 @@ fn step_parts(
     table: &[u64],
     m: WideMasks,
     p: Prefilter,
-    g: WideProgress,
+    g: WideRun,
     text: &[u8],
     ends: &mut [u32],
-) -> WideProgress
+) -> WideRun
     requires { ⌜ PartFits (now table) m p g (length (now text)) (length (now ends)) ⌝ }
     ensures { λ r. ⌜ WideStepped (wideAutomatonOf (now (table .entry)) m) g (now (text .entry)) (now (ends .entry)) r (now (ends .exit)) ⌝ }
 {
@@ -237,10 +225,10 @@ fn step_by(
     table: &[u64],
     m: WideMasks,
     p: WidePrefilter,
-    g: WideProgress,
+    g: WideRun,
     text: &[u8],
     ends: &mut [u32],
-) -> WideProgress
+) -> WideRun
     requires { ⌜ TextFits (now table) m p ⌝ }
     requires { ⌜ g .count + length (now text) ≤ length (now ends) ⌝ }
     requires { ⌜ g .at + length (now text) < 2 ^ 32 ⌝ }
@@ -261,10 +249,10 @@ fn step_by(
 pub fn step_text(
     rule: &[u64],
     p: WidePrefilter,
-    g: WideProgress,
+    g: WideRun,
     text: &[u8],
     ends: &mut [u32],
-) -> WideProgress
+) -> WideRun
     requires { ⌜ RuleFits (now rule) p ⌝ }
     requires { ⌜ g .count + length (now text) ≤ length (now ends) ⌝ }
     requires { ⌜ g .at + length (now text) < 2 ^ 32 ⌝ }
@@ -275,7 +263,7 @@ pub fn step_text(
 }
 
 // Steps over a short text in four words, and stores its ends after those stored.
-pub fn step_short(rule: &[u64], g: WideProgress, text: &[u8], ends: &mut [u32]) -> WideProgress
+pub fn step_short(rule: &[u64], g: WideRun, text: &[u8], ends: &mut [u32]) -> WideRun
     requires { ⌜ RuleSteps (now rule) ⌝ }
     requires { ⌜ g .count + length (now text) ≤ length (now ends) ⌝ }
     requires { ⌜ g .at + length (now text) < 2 ^ 32 ⌝ }

@@ -1,5 +1,5 @@
 -- `scan_piece::feed_rest` meets its contract.
-use Rattle.scan_piece.proofs.HeldLaws.{rest-fed}
+use Rattle.piece_stepping.proofs.HeldLaws.{rest-fed}
 use borrow.Author.Needs.{needs}
 use Rattle.scan_piece.proofs.feed_rest.Statement.{statement}
 use Rattle.scan_piece.proofs.feed_rest.Tie as tie

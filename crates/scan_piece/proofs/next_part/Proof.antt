@@ -1,5 +1,5 @@
 -- `scan_piece::next_part` meets its contract.
-use Rattle.scan_piece.proofs.Pieces.{place-stepped}
+use Rattle.piece_stepping.proofs.Pieces.{place-space, place-stepped}
 use borrow.Author.Needs.{needs}
 use Rattle.scan_piece.proofs.next_part.Statement.{statement}
 use Rattle.scan_piece.proofs.next_part.Tie as tie
@@ -7,17 +7,17 @@ use Rattle.scan_piece.proofs.next_part.Tie as tie
 literal-chunk-requires : tie.Need-literal-chunk-requires
 literal-chunk-requires c κs = search needs
 
-sub-step-text : tie.Need-sub-step-text
-sub-step-text c = search needs
+sub-step-literals : tie.Need-sub-step-literals
+sub-step-literals c = search needs
 
-part-step-text-start : tie.Need-part-step-text-start
-part-step-text-start c = search needs
+part-step-literals-start : tie.Need-part-step-literals-start
+part-step-literals-start c = search needs
 
-part-step-text-end : tie.Need-part-step-text-end
-part-step-text-end c = search needs
+part-step-literals-end : tie.Need-part-step-literals-end
+part-step-literals-end c = search needs
 
-step-text-requires : tie.Need-step-text-requires
-step-text-requires c κs = (search needs, (search needs, (search needs, search needs)))
+step-literals-requires : tie.Need-step-literals-requires
+step-literals-requires c κs = (search needs, (search needs, search place-space))
 
 same-length : tie.Need-same-length
 same-length c = search needs
@@ -39,10 +39,10 @@ next-part-spec =
     tie.close
     (tie.spec
     literal-chunk-requires
-    sub-step-text
-    part-step-text-start
-    part-step-text-end
-    step-text-requires
+    sub-step-literals
+    part-step-literals-start
+    part-step-literals-end
+    step-literals-requires
     same-length
     returns
     step-chunk-requires

@@ -12,8 +12,14 @@ decoded-of-requires c κs = search needs
 cast-before : tie.Need-cast-before
 cast-before c = search needs
 
+read-of-requires : tie.Need-read-of-requires
+read-of-requires c κs = search needs
+
+cast-read : tie.Need-cast-read
+cast-read c = search needs
+
 returns : tie.Need-returns
 returns c = cc
 
 pub start-low-spec : {M : Type 1} → statement M
-start-low-spec = tie.close (tie.spec state-of-requires decoded-of-requires cast-before returns)
+start-low-spec = tie.close (tie.spec state-of-requires decoded-of-requires cast-before read-of-requires cast-read returns)

@@ -1,5 +1,5 @@
 -- `scan_step::step_piece_low` meets its contract. Its laws are in this crate's `proofs/`; `search LAW` finds a law's premises in `c`. Assumes nothing.
-use Rattle.scan_step.proofs.Steps.{low-long, low-possible, low-table-fits, low-held-fine, low-room, low-place, low-sound, low-stepped}
+use Rattle.scan_step.proofs.Steps.{low-long, low-possible, low-table-fits, low-held-fine, low-space, low-sound, low-stepped}
 use borrow.Author.Needs.{needs}
 use Rattle.scan_step.proofs.step_piece_low.Statement.{statement}
 use Rattle.scan_step.proofs.step_piece_low.Tie as tie
@@ -23,7 +23,7 @@ part-feed-bytes-end : tie.Need-part-feed-bytes-end
 part-feed-bytes-end c = search needs
 
 feed-bytes-requires : tie.Need-feed-bytes-requires
-feed-bytes-requires c κs = (search low-table-fits, (search low-held-fine, (search low-room, (search low-place, search low-sound))))
+feed-bytes-requires c κs = (search low-table-fits, (search low-sound, (search low-held-fine, search low-space)))
 
 low-of-requires : tie.Need-low-of-requires
 low-of-requires c κs = search needs

@@ -1,5 +1,5 @@
 -- `scan_step::step_piece_wide` meets its contract. Its laws are in this crate's `proofs/`; `search LAW` finds a law's premises in `c`. Assumes nothing.
-use Rattle.scan_step.proofs.Steps.{rule-long, rule-fits, held-fine, room-fits, place-fits, piece-stepped}
+use Rattle.scan_step.proofs.Steps.{rule-long, rule-fits, held-fine, piece-space, piece-stepped}
 use borrow.Author.Needs.{needs}
 use Rattle.scan_step.proofs.step_piece_wide.Statement.{statement}
 use Rattle.scan_step.proofs.step_piece_wide.Tie as tie
@@ -32,7 +32,7 @@ part-feed-bytes-end : tie.Need-part-feed-bytes-end
 part-feed-bytes-end c = search needs
 
 feed-bytes-requires : tie.Need-feed-bytes-requires
-feed-bytes-requires c κs = (search rule-fits, (search held-fine, (search room-fits, search place-fits)))
+feed-bytes-requires c κs = (search rule-fits, (search held-fine, search piece-space))
 
 same-length : tie.Need-same-length
 same-length c = search needs

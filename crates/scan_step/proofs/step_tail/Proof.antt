@@ -1,7 +1,7 @@
 -- `scan_step::step_tail` meets its contract.
 use native.Mathlib.Omega.{arith}
 use lib.ListN.{length-take}
-use Rattle.scan_step.proofs.Steps.{rule-steps, tail-room, tail-place, tail-stepped}
+use Rattle.scan_step.proofs.Steps.{rule-steps, tail-space, tail-stepped}
 use borrow.Author.Needs.{needs}
 use Rattle.scan_step.proofs.step_tail.Statement.{statement}
 use Rattle.scan_step.proofs.step_tail.Tie as tie
@@ -22,7 +22,7 @@ slice-aggregate-step-short-2 : tie.Need-slice-aggregate-step-short-2
 slice-aggregate-step-short-2 c = let l = c .before .before .before .before .load .ensures in simp length-take (omega (arith, l .few, l .long))
 
 step-short-requires : tie.Need-step-short-requires
-step-short-requires c κs = search (rule-steps, tail-room, tail-place, needs)
+step-short-requires c κs = search (rule-steps, tail-space, needs)
 
 same-length : tie.Need-same-length
 same-length c = search needs

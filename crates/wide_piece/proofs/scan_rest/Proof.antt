@@ -3,22 +3,23 @@ use native.Mathlib.Omega.{arith}
 use Prim.Native.Nat.{_-_}
 use lib.ListN.{length}
 use Rattle.rule_part.specs.RulePart.{automatonOfRule}
-use Rattle.wide_piece.proofs.Pieces.{Resting, resting, rest-open, rest-turn, rest-over}
+use Rattle.wide_pairs.specs.Stepping.{runner, standing}
+use Rattle.piece_stepping.proofs.Pieces.{Resting, resting, rest-open, rest-turn, rest-over}
 use borrow.Author.Needs.{needs}
 use Rattle.wide_piece.proofs.scan_rest.Statement.{statement}
 use Rattle.wide_piece.proofs.scan_rest.Tie as tie
 
 abbrev Inv-loop : tie.InvT-loop
-Inv-loop rule plan piece from ends₀ s₀ i₀ ends s i = Resting (automatonOfRule rule) s₀ piece from ends₀ s i ends
+Inv-loop rule filter piece from ends₀ s₀ i₀ ends s i = Resting (runner (automatonOfRule rule)) (standing s₀) piece from ends₀ (standing s) i ends
 
 abbrev μ-loop : tie.MeasureT-loop
-μ-loop rule plan piece from ends₀ s₀ i₀ ends s i = length piece - i
+μ-loop rule filter piece from ends₀ s₀ i₀ ends s i = length piece - i
 
 loop-holds : tie.Need-loop-holds Inv-loop μ-loop
 loop-holds c = search resting
 
 next-part-requires : tie.Need-next-part-requires Inv-loop μ-loop
-next-part-requires c κs = (search needs, (search needs, (search needs, search needs)))
+next-part-requires c κs = (search needs, (search needs, search needs))
 
 same-length : tie.Need-same-length Inv-loop μ-loop
 same-length c = search needs

@@ -10,17 +10,17 @@ is-quiet-requires c κs = search needs
 low-masks-requires : tie.Need-low-masks-requires
 low-masks-requires c κs = search needs
 
-sub-step-text : tie.Need-sub-step-text
-sub-step-text c = search needs
+sub-scan-text : tie.Need-sub-scan-text
+sub-scan-text c = search needs
 
-part-step-text-start : tie.Need-part-step-text-start
-part-step-text-start c = search needs
+part-scan-text-start : tie.Need-part-scan-text-start
+part-scan-text-start c = search needs
 
-part-step-text-end : tie.Need-part-step-text-end
-part-step-text-end c = search needs
+part-scan-text-end : tie.Need-part-scan-text-end
+part-scan-text-end c = search needs
 
-step-text-requires : tie.Need-step-text-requires
-step-text-requires c κs = (search low-table, (search needs, (search needs, search planned-low)))
+scan-text-requires : tie.Need-scan-text-requires
+scan-text-requires c κs = (search low-table, (search planned-low, (search needs, search needs)))
 
 low-of-requires : tie.Need-low-of-requires
 low-of-requires c κs = search needs
@@ -40,10 +40,10 @@ try-one-word-spec =
     (tie.spec
     is-quiet-requires
     low-masks-requires
-    sub-step-text
-    part-step-text-start
-    part-step-text-end
-    step-text-requires
+    sub-scan-text
+    part-scan-text-start
+    part-scan-text-end
+    scan-text-requires
     low-of-requires
     same-length
     returns
