@@ -12,8 +12,8 @@ CFLAGS = -O2 -g
 WARNINGS = -Wall -Wextra -Wpedantic -Wconversion -Wshadow
 COMPILE = $(CC) -std=c99 $(WARNINGS) $(CFLAGS) -Iinclude
 
-ARCHIVE = target/staticlib/libjazhuppe.a
-LISTER = target/bin/lister
+ARCHIVE = build/libjazhuppe.a
+LISTER = build/lister
 PROGRAM = build/jazhuppe
 VENUES = build/venues
 HEADER = include/jazhuppe.h
@@ -23,13 +23,19 @@ INTO = $(DESTDIR)$(PREFIX)
 
 all: $(ARCHIVE) $(PROGRAM) $(VENUES)
 
-# It needs the Rattle kit's rt, which proves what has changed and compiles it only then.
-$(ARCHIVE): crates.txt $(shell find crates -name must-fail -prune -o -type f -print)
-	rt staticlib jazhuppe
+SOURCES = crates.txt $(shell find crates \( -name must-fail -o -name out \) -prune -o -type f -print)
 
-# Document 01's program, in Rattle: the gate leaves it there, and the host tests run it.
-$(LISTER): crates.txt $(shell find crates -name must-fail -prune -o -type f -print)
-	rt check lister
+# It needs the Rattle kit's rt, which proves what has changed and compiles it only then.
+$(ARCHIVE): $(SOURCES)
+	@mkdir -p $(@D)
+	cd crates/jazhuppe_c && rt lib
+	cp crates/jazhuppe_c/out/libjazhuppe_c.a $@
+
+# Document 01's program, in Rattle: the host tests run it. It is run once to build it.
+$(LISTER): $(SOURCES)
+	@mkdir -p $(@D)
+	cd crates/lister && rt run < stdin > /dev/null
+	cp crates/lister/out/lister $@
 
 $(PROGRAM) $(VENUES): build/%: host/%.c $(HEADER) $(ARCHIVE)
 	@mkdir -p $(@D)

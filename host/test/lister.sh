@@ -26,7 +26,7 @@ input() {
 
 while IFS= read -r line; do
     echo "-- ${line%%"$tab"*}"
-    input "${line#*"$tab"}" | target/bin/lister
+    input "${line#*"$tab"}" | build/lister
 done < host/test/lister.txt > "$given"
 diff "$given" host/test/lister.out || exit 1
 echo "ok the lister, $(grep -c '' host/test/lister.txt) inputs"

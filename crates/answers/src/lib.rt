@@ -1,5 +1,7 @@
 // What the calls answer a host, and the numbers of their refusals (document 01, "Numbered answers"). `model` has
 // the same numbers, and the header for a host.
+#![tactic(auto)]
+
 ghost use Rattle.std.specs.Prelude.{◌≡◌};
 ghost use Rattle.answers.specs.Answers.{refusing, counting, refusing_rule, accepting_rule, refusing_text, written_text, refusing_name, judged_name};
 

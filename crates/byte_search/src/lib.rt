@@ -3,6 +3,8 @@
 // or the first that does. Blocks where none does are skipped; what is left is found byte by byte. A
 // function takes no test as an argument, so each test has its own functions: here are those for one
 // byte, and what the blocks of every test share.
+#![tactic(auto)]
+
 ghost use Rattle.std.specs.Prelude.{◌≡◌, ◌+◌, ◌<◌, ◌≤◌, length};
 ghost use Rattle.byte_search.specs.BlockTests.{BlockTested, NoneBefore, LaneOrEnd, BlockStart, same};
 

@@ -1,4 +1,6 @@
 // Sets of bytes as four words: byte c is bit c % 64 of word c / 64. And the fold, by its formula.
+#![tactic(auto)]
+
 ghost use Rattle.std.specs.Prelude.{◌≡◌, true, ◌≤◌, ◌<◌};
 ghost use Rattle.model.specs.RuleText.{other_case};
 ghost use Rattle.byte_set.specs.Sets.{member, add_byte, add_range, widen, turn, minus, is_empty};

@@ -1,5 +1,7 @@
 // The codes that a caller names for a smudged plan, a byte each, and their sets, 32 bytes for each code; and what refuses
 // them under every rule (row 15).
+#![tactic(auto)]
+
 ghost use Rattle.std.specs.Prelude.{◌≡◌, ◌*◌, ◌≤◌, length, drop};
 ghost use Rattle.model.specs.RuleText.{one_of, some_below};
 ghost use Rattle.model.specs.Codes.{set_bytes, in_set, share, codes_most, codes_of, named_twice, set_wrong, sets_wrong, codes_wrong};

@@ -1,5 +1,7 @@
 // The table of a rule, read by fit: the entry of a code becomes the union of the entries of the bytes in its set, and every
 // other entry stays. Forwards, reversed and in each plane alike.
+#![tactic(auto)]
+
 ghost use Rattle.std.specs.Prelude.{◌≡◌, length};
 ghost use Rattle.model.specs.Codes.{set_bytes, in_set};
 ghost use Rattle.code_table.specs.CodeTables.{union_below, PlaneFittable, PlaneFits, WordFittable, WordFits, TableFittable, TableFits};

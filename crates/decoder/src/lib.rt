@@ -1,4 +1,6 @@
 // The decoder of a whole text: the references of document 01, once, into a lent buffer.
+#![tactic(auto)]
+
 ghost use Rattle.std.specs.Prelude.{◌≤◌, length};
 ghost use Rattle.decoder.specs.Decoder.{DecodedAll, DecodeIs};
 

@@ -1,5 +1,7 @@
 // The dispatcher of note 13: which of eight feeds has its turn. Its state is two numbers, handed over and handed back: which feeds wait, feed f as bit f
 // (bits above 7 are kept and say nothing), and the one last served. The bytes are the host's.
+#![tactic(auto)]
+
 ghost use Rattle.std.specs.Prelude.{◌≡◌, ◌≤◌, ◌^◌};
 ghost use Rattle.dispatcher.specs.Dispatching.{OfferIs, TurnIs, LastIs, FirstIs, Somebody, NextIs, as_handed};
 

@@ -4,7 +4,7 @@ use mathlib.Core.List.{List, [], ◌∷◌}
 use Prim.Native.Nat.{ℕ, zero, suc, pred, ◌+◌, ◌-◌, ◌≤◌, ◌<◌}
 use native.Mathlib.Omega.{arith}
 use lib.ListN.{length, get_or}
-use Rattle.model.specs.References.{Token, byte_tokens, taken, joined}
+use Rattle.model.specs.References.{Token, byte_tokens, joined}
 use Rattle.model.specs.RawPlaces.{places_by, place_in}
 use Rattle.model.proofs.Places.{Rises, rises_le, places_bytes, places_shift}
 use Rattle.entry_list.specs.Marks.{marked_place, Marked}

@@ -1,5 +1,7 @@
 // Ends at the front of a lent list become pairs, each end with its raw count, in place. It goes from the
 // last on: a pair then lies over no end that is still to come.
+#![tactic(auto)]
+
 ghost use Rattle.std.specs.Prelude.{◌≡◌, ◌+◌, ◌-◌, ◌*◌, ◌≤◌, ◌<◌, length};
 ghost use Rattle.model.specs.RawPlaces.{pair_numbers};
 ghost use Rattle.entry_list.specs.Marks.{mark_numbers, larger_of, marked_place, SkipIs, MarkFits};

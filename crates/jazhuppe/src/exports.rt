@@ -1,4 +1,4 @@
-// The calls of the C interface, include/jazhuppe.h. A slice is a pointer and a length there.
+// The calls of the C interface, include/jazhuppe.h, for callers in Rattle; `jazhuppe_c` exports them to C.
 ghost use Rattle.decoder.specs.Decoder.{DecodeIs};
 ghost use Rattle.scan_open.specs.Opening.{OpenIs};
 ghost use Rattle.scan.specs.Calls.{FeedIs, FinishIs};
@@ -13,8 +13,7 @@ ghost use Rattle.text_show.specs.Showing.{ShownIs};
 use answers::{Answer, Covered, Offered, Opened, Served, Span, Text};
 
 // Prepares a rule: its refusal, or its counts.
-#[unsafe(no_mangle)]
-pub extern "C" fn jazhuppe_prepare(rule: &[u8], fold: u32) -> Opened
+pub fn jazhuppe_prepare(rule: &[u8], fold: u32) -> Opened
     ensures { PrepareIs fold rule.now result }
 {
     let p = rule_parser::prepare(rule, fold);
@@ -27,32 +26,28 @@ pub extern "C" fn jazhuppe_prepare(rule: &[u8], fold: u32) -> Opened
 }
 
 // Rewrites a stored rule without outer gaps of unequal bounds.
-#[unsafe(no_mangle)]
-pub extern "C" fn jazhuppe_rewrite(rule: &[u8], fold: u32, out: &mut [u8]) -> Text
+pub fn jazhuppe_rewrite(rule: &[u8], fold: u32, out: &mut [u8]) -> Text
     ensures { RewriteIs fold rule.now out.old result out.new }
 {
     rule_rewriter::rewrite(rule, fold, out)
 }
 
 // Imports a LIKE pattern as a rule.
-#[unsafe(no_mangle)]
-pub extern "C" fn jazhuppe_import_like(pattern: &[u8], out: &mut [u8]) -> Text
+pub fn jazhuppe_import_like(pattern: &[u8], out: &mut [u8]) -> Text
     ensures { ImportIs pattern.now out.old result out.new }
 {
     like_importer::import_like(pattern, out)
 }
 
 // Says whether a rule covers a whole name.
-#[unsafe(no_mangle)]
-pub extern "C" fn jazhuppe_covers(rule: &[u8], fold: u32, name: &[u8]) -> Covered
+pub fn jazhuppe_covers(rule: &[u8], fold: u32, name: &[u8]) -> Covered
     ensures { CoversIs fold rule.now name.now result }
 {
     whole_match::covers_name(rule, fold, name)
 }
 
 // Opens a scan for a rule with codes.
-#[unsafe(no_mangle)]
-pub extern "C" fn jazhuppe_open(
+pub fn jazhuppe_open(
     rule: &[u8],
     fold: u32,
     codes: &[u8],
@@ -65,48 +60,42 @@ pub extern "C" fn jazhuppe_open(
 }
 
 // Feeds a piece to a scan.
-#[unsafe(no_mangle)]
-pub extern "C" fn jazhuppe_feed(scan: &mut [u64], piece: &[u8], ends: &mut [u32]) -> Answer
+pub fn jazhuppe_feed(scan: &mut [u64], piece: &[u8], ends: &mut [u32]) -> Answer
     ensures { FeedIs scan.old piece.now ends.old result scan.new ends.new }
 {
     scan::feed(scan, piece, ends)
 }
 
 // Finishes a scan.
-#[unsafe(no_mangle)]
-pub extern "C" fn jazhuppe_finish(scan: &mut [u64], ends: &mut [u32]) -> Answer
+pub fn jazhuppe_finish(scan: &mut [u64], ends: &mut [u32]) -> Answer
     ensures { FinishIs scan.old ends.old result scan.new ends.new }
 {
     scan::finish(scan, ends)
 }
 
 // Offers a piece of a feed, which waits for its turn.
-#[unsafe(no_mangle)]
-pub extern "C" fn jazhuppe_offer(waiting: u32, last: u32, feed: u32) -> Offered
+pub fn jazhuppe_offer(waiting: u32, last: u32, feed: u32) -> Offered
     ensures { OfferIs waiting last feed result }
 {
     dispatcher::offer(waiting, last, feed)
 }
 
 // Names the feed that has its turn.
-#[unsafe(no_mangle)]
-pub extern "C" fn jazhuppe_turn(waiting: u32, last: u32) -> Served
+pub fn jazhuppe_turn(waiting: u32, last: u32) -> Served
     ensures { TurnIs waiting last result }
 {
     dispatcher::turn(waiting, last)
 }
 
 // Decodes a whole plan.
-#[unsafe(no_mangle)]
-pub extern "C" fn jazhuppe_decode(raw: &[u8], out: &mut [u8]) -> Answer
+pub fn jazhuppe_decode(raw: &[u8], out: &mut [u8]) -> Answer
     ensures { DecodeIs raw.now out.old result out.new }
 {
     decoder::decode(raw, out)
 }
 
 // Searches a whole decoded text for a rule with codes.
-#[unsafe(no_mangle)]
-pub extern "C" fn jazhuppe_search(
+pub fn jazhuppe_search(
     rule: &[u8],
     fold: u32,
     codes: &[u8],
@@ -120,8 +109,7 @@ pub extern "C" fn jazhuppe_search(
 }
 
 // The part of a text that is shown, as its two places: no reference is returned through this interface.
-#[unsafe(no_mangle)]
-pub extern "C" fn jazhuppe_show(rule: &[u8], fold: u32, text: &[u8], start: usize) -> Span
+pub fn jazhuppe_show(rule: &[u8], fold: u32, text: &[u8], start: usize) -> Span
     ensures { ShownIs fold rule.now text.now start result }
 {
     text_show::span(rule, fold, text, start)

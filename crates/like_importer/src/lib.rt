@@ -1,5 +1,7 @@
 // Note 2's importer: an SQL LIKE pattern becomes rule text in a lent buffer. The pattern is read twice: to judge it and to measure its
 // text, which takes no memory however long it is, and then, where nothing refuses it, to write that.
+#![tactic(auto)]
+
 ghost use Rattle.std.specs.Prelude.{◌≡◌, ◌+◌, ◌≤◌, ◌<◌, get_or, length};
 ghost use Rattle.model.specs.Ascii.{byte_of};
 ghost use Rattle.model.specs.RuleText.{one_of, marks};
@@ -11,7 +13,7 @@ use answers::Text;
 use limits::{POSITION_LIMIT, RULE_LIMIT, TEXT_LIMIT};
 
 // An item of a pattern, as its rule text: one byte or two. `some` says that it must have a byte of the name.
-#[derive(Drop)]
+#[derive(Clone, Copy)]
 pub struct Item {
     pub first: u8,
     pub second: u8,

@@ -1,6 +1,8 @@
 // The limits of document 01 and of the change requests, each under one name; `model` has the same (`rule_limit` and so on), and the
 // header for a host. No code.
 
+#![tactic(auto)]
+
 // "A rule is 1 to 1,023 bytes".
 pub const RULE_LIMIT: usize = 1023;
 

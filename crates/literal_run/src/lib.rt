@@ -1,4 +1,6 @@
 // Copies literal bytes, those without a `&`, by blocks of 32, the last one a part of a block.
+#![tactic(auto)]
+
 ghost use Rattle.std.specs.Prelude.{◌≡◌, cond, ◌++◌, ◌+◌, ◌≤◌, length, take, drop};
 ghost use Rattle.std.proofs.lemmas.List.Edits.{sets};
 ghost use Rattle.byte_search.specs.BlockTests.{BlockTested, same};

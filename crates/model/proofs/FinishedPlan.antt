@@ -18,7 +18,7 @@ use Rattle.model.specs.PlainScan.{Call, nothing_kept, text_of, new_ends, scan_fr
 use Rattle.model.proofs.Truth.{T_false}
 use Rattle.model.proofs.Decided.{end-decided}
 use Rattle.model.proofs.Windows.{occurs-length}
-use Rattle.model.proofs.Places.{Rises, all_rises, raws_rise, weakly_higher}
+use Rattle.model.proofs.Places.{Rises, raws_rise, weakly_higher}
 use Rattle.model.proofs.Scans.{new_ends-past, tokens_of, read_within, all_entries, finished_entries}
 use Rattle.model.proofs.Fitting.{smudged_ok}
 

@@ -6,7 +6,7 @@ use native.Mathlib.Omega.{arith}
 use native.Mathlib.Decide.{dec_le}
 use lib.ListN.{length, take, drop, get_or, replicate, length-append, length-take, length-replicate, take-append-drop, get_or-replicate, get_or-append}
 use lib.Seq.{take_at, drop_at, get_or-append-add}
-use Rattle.model.specs.References.{Found, none, found, reference_at, utf8, Token, token_by, tokens_from, taken, joined, decode}
+use Rattle.model.specs.References.{Found, none, found, reference_at, Token, token_by, tokens_from, taken, joined, decode}
 use Rattle.model.specs.RawPlaces.{places_by, raw_places, place_in, CutAt}
 use Rattle.model.proofs.Forms.{not_none}
 use Rattle.model.proofs.Borders.{ref_size, ref_local, ref_more}

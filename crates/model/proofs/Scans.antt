@@ -12,10 +12,10 @@ use lib.ListN.{length, drop, length-append}
 use lib.Seq.{take-append-le}
 use Rattle.model.specs.Occurrence.{Position, stretch, any_from, cons_if, all_from, is_occurrence, is_end}
 use Rattle.model.specs.References.{Token, byte_tokens, tokens_from, taken, joined, decode, held_tail, without_tail, out_tokens}
-use Rattle.model.specs.RawPlaces.{Entry, places_by, placed, place_in, entries_by, raw_places}
+use Rattle.model.specs.RawPlaces.{Entry, places_by, place_in, entries_by}
 use Rattle.model.specs.PlainScan.{Call, feed, finish, Answer, refused, reported, Kept, nothing_kept, read_of, text_of, piece_of, refusal, after, new_ends, new_entries, scan_from, reported_entries, kept_after}
 use Rattle.model.proofs.Truth.{branch, T_false}
-use Rattle.model.proofs.Decoding.{joined-append, held_cut, tokens_cut, tokens-finish, taken-all, taken_out, tail-joined}
+use Rattle.model.proofs.Decoding.{joined-append, held_cut, tokens_cut, tokens-finish, taken-all, taken_out}
 use Rattle.model.proofs.Places.{Rises, rises_lower, all_rises, placed-append, entries_front, entries_back}
 
 -- ---- lists of numbers that pass a test

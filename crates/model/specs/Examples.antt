@@ -14,7 +14,7 @@ use Rattle.model.specs.References.{form_limit, utf8, byte_tokens, tokens_from, d
 use Rattle.model.specs.RawPlaces.{raw_places, ends_of, raws_of, pairs_of}
 use Rattle.model.specs.PlainScan.{Call, feed, finish, Answer, refused, reported, needed, refusal_for, plain_scan, reported_entries}
 use Rattle.model.specs.WindowSearch.{shift, windows, shown}
-use Rattle.model.specs.Turns.{Dispatcher, opened, OfferAnswer, turns_down, takes, offer, TurnAnswer, nobody, serves, turn}
+use Rattle.model.specs.Turns.{Dispatcher, opened, OfferAnswer, turns_down, takes, offer, nobody, serves, turn}
 use Rattle.model.specs.MarkedTable.{same, is_accepted, is_refused}
 
 -- ---- rules

@@ -1,5 +1,5 @@
 -- Note 2, "LIKE lists": what an SQL LIKE pattern accepts, said without rules, and the importer that makes rule text of one, with row 14. Assumes nothing.
-use Rattle.std.specs.Prelude.{Bool, true, false, not, cond, ◌&&◌, List, [], ◌∷◌, ◌++◌, ℕ, suc, pred, ◌+◌, ltb, eqb, length, drop}
+use Rattle.std.specs.Prelude.{Bool, true, false, not, cond, ◌&&◌, List, [], ◌∷◌, ◌++◌, ℕ, suc, pred, ltb, eqb, length, drop}
 use Rattle.model.specs.RefusalNumbers.{too_short, too_much, like_fault}
 use Rattle.model.specs.Ascii.{byte_of, ascii}
 use Rattle.model.specs.Occurrence.{any_from, is_empty}

@@ -8,7 +8,7 @@ use reference_reader::Reference;
 
 // Bytes held back between pieces: as many as `len` says. The array has room for a whole form, so that
 // it can be topped up with the head of the next piece.
-#[derive(Drop)]
+#[derive(Clone, Copy)]
 pub struct Held {
     pub bytes: [u8; FORM_LIMIT],
     pub len: usize,

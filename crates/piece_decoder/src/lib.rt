@@ -1,5 +1,7 @@
 // What raw bytes let out, as tokens: one loop decodes them, for a whole text and for the parts of a
 // piece; and a piece goes chunk by chunk, literal bytes where they stand and others through a room.
+#![tactic(auto)]
+
 pub mod held;
 
 ghost use Rattle.std.specs.Prelude.{◌≡◌, ◌+◌, ◌≤◌, ◌<◌, length};

@@ -1,5 +1,7 @@
 // The plan's part of a scan value: whether it has finished, the counts of raw and of decoded bytes, and the bytes
 // held back. It knows no rule, so that one such part serves any number of them.
+#![tactic(auto)]
+
 ghost use Rattle.std.specs.Prelude.{◌≡◌, ◌<◌, ◌^◌, length};
 ghost use Rattle.std.proofs.lemmas.List.Edits.{sets};
 ghost use Rattle.piece_decoder.specs.Held.{held_of};

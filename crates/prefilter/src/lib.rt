@@ -1,5 +1,7 @@
 // Which bytes a scan may skip in the start state of a rule, read off its table and masks before the text
 // is read. Which prefilter is chosen is a matter of speed; each is sound.
+#![tactic(auto)]
+
 ghost use Rattle.std.specs.Prelude.{◌≡◌, ◌-◌, ◌^◌, ◌<◌, ◌≤◌, length};
 ghost use Rattle.byte_search.specs.BlockTests.{NoneBefore, meets};
 ghost use Rattle.prefilter.specs.Soundness.{StartState, Union, UnionWithout, ClearBit, ClearOfBoth, LiteralPrefix, PairTested, PrefilterSound};
@@ -20,7 +22,7 @@ pub const BY_RANGE: u64 = 3;
 
 pub const BY_PAIR: u64 = 4;
 
-#[derive(Drop)]
+#[derive(Clone, Copy)]
 pub struct Prefilter {
     pub kind: u64,
     pub start: u64,
@@ -242,7 +244,7 @@ fn literal_prefix(repeats: u64, optional: u64, top: u64) -> u64
 }
 
 // A byte, its rank among the rare ones, and a bit of its entry.
-#[derive(Drop)]
+#[derive(Clone, Copy)]
 pub struct Choice {
     pub rank: usize,
     pub byte: u8,
@@ -383,7 +385,7 @@ fn offset(p: u32) -> usize
 }
 
 // What the tests of a pair say: whether it is sound, and whether no entry has the highest bit.
-#[derive(Drop)]
+#[derive(Clone, Copy)]
 pub struct PairTest {
     pub sound: bool,
     pub clear: bool,

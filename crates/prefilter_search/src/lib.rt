@@ -1,5 +1,7 @@
 // The next candidate by the tests of a prefilter, found as `byte_search` finds a byte: a byte whose table
 // entry meets a mask, a byte of a range, a start that has a pair of bytes. A scan skips what lies before it.
+#![tactic(auto)]
+
 ghost use Rattle.std.specs.Prelude.{◌≡◌, ◌+◌, ◌<◌, ◌≤◌, length};
 ghost use Rattle.byte_search.specs.BlockTests.{BlockTested, NoneBefore};
 ghost use Rattle.prefilter_search.specs.Candidates.{in_table, in_range, pair_at};

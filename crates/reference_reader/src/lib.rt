@@ -1,4 +1,6 @@
 // One reference of document 01: its reader, and the writer of its UTF-8 bytes.
+#![tactic(auto)]
+
 ghost use Rattle.std.specs.Prelude.{◌≡◌, ◌+◌, ◌*◌, ◌<◌, ◌≤◌, length, get_or};
 ghost use Rattle.model.specs.References.{form_limit, is_char, decodes_to};
 ghost use Rattle.reference_reader.specs.Reader.{code_limit, MatchIs, DigitIs, Saturated, base_of, number_reading, NamePlace, NumberPlace, ReadIs};

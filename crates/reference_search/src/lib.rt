@@ -1,5 +1,7 @@
 // The next `&` of a piece that may begin a form: the bytes before it are let out as they came. Most
 // `&` that begin none are told by the byte after them, 64 places at a time.
+#![tactic(auto)]
+
 ghost use Rattle.std.specs.Prelude.{◌≡◌, ◌+◌, ◌≤◌, ◌<◌, length};
 ghost use Rattle.byte_search.specs.BlockTests.{NoneBefore};
 ghost use Rattle.reference_search.specs.Candidates.{may_follow_amp, candidate_at, LiteralEnd};

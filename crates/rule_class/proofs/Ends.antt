@@ -17,7 +17,6 @@ use Rattle.rule_class.specs.declared.ClassByte.TheVariants.{Byte, Wrong}
 use Rattle.rule_class.specs.declared.ClassItem.{ClassItem}
 use Rattle.rule_class.specs.declared.ClassItem.TheVariants.{Wrong as NoItem, Range, Close}
 use Rattle.rule_class.specs.declared.Close.TheVariants.{Wrong as NoClose, At}
-use Rattle.rule_class.specs.declared.Items.{Items}
 use Rattle.byte_set.specs.Sets.{add_ranges, add_range, none}
 use Rattle.rule_class.specs.Items.{end_of, ReadsEnd, ReadsEscape, item_of, ReadsItem, collect, ReadsItems}
 

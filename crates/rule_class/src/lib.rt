@@ -1,6 +1,8 @@
 // The items of a class (document 01, "Rule text"), by index into the whole rule: an end of a range, an item, and all items up to
 // the `]` as a set of bytes. Each contract is one record of `specs/Items.antt`: an equation with the model's own reading of the
 // bytes from that index on, and the bounds that callers want.
+#![tactic(auto)]
+
 ghost use Rattle.std.specs.Prelude.{◌≡◌, ◌<◌, get_or, length};
 ghost use Rattle.model.specs.RuleText.{may_escape};
 ghost use Rattle.rule_class.specs.Items.{ReadsEnd, ReadsEscape, ReadsItem, ReadsItems};

@@ -1,4 +1,6 @@
 // A rule with codes: what refuses the rule, and then, by row 15, the codes beside it.
+#![tactic(auto)]
+
 ghost use Rattle.std.specs.Prelude.{◌≡◌, ◌<◌};
 ghost use Rattle.model.specs.RuleText.{fold_flag};
 ghost use Rattle.model.specs.NumberedAnswers.{rule_positions};

@@ -1,6 +1,8 @@
 // The elements of a rule text (document 01, "Rule text"), one at a time, by index into the whole
 // rule. Each contract is one record of `specs/Reading.antt`: an equation with the model's own reading
 // of the bytes from that index on, and the bounds that callers want.
+#![tactic(auto)]
+
 ghost use Rattle.std.specs.Prelude.{◌≡◌, ◌≤◌, ◌<◌, length};
 ghost use Rattle.model.specs.RuleText.{position_limit};
 ghost use Rattle.rule_element.specs.Reading.{refused_kind, ReadsClass, ReadsBracket, ReadsGap, plain_of, stray_of, ReadsKind, mark_at, often_by, bytes_of, size_of, no_element, ReadsElement};
@@ -9,7 +11,7 @@ use rule_class::{ClassByte, Close};
 use rule_gap::Bounds;
 
 // What an element is, with its data. A class is named by the number of the position that it makes, counted from 0; its set lies beside.
-#[derive(Drop)]
+#[derive(Clone, Copy)]
 pub enum Kind {
     Byte(u8),
     Any,
@@ -18,7 +20,7 @@ pub enum Kind {
 }
 
 // How often it may stand.
-#[derive(Drop)]
+#[derive(Clone, Copy)]
 pub enum Often {
     Once,
     Optional,
@@ -26,7 +28,7 @@ pub enum Often {
     Both,
 }
 
-#[derive(Drop)]
+#[derive(Clone, Copy)]
 pub struct Element {
     pub kind: Kind,
     pub often: Often,

@@ -1,9 +1,11 @@
 // A gap of a rule text (document 01, "Rule text"), by index into the whole rule. Each contract is a record or a definition of `specs/Bounds.antt`.
+#![tactic(auto)]
+
 ghost use Rattle.std.specs.Prelude.{◌≡◌, ◌<◌, length, drop};
 ghost use Rattle.rule_gap.specs.Bounds.{ReadsDigit, ReadsBound, ReadsBounds, unequal_at};
 
 // A bound of a gap, and the place after it: the place where it was looked for, if no digit stands there.
-#[derive(Drop)]
+#[derive(Clone, Copy)]
 pub struct Bound {
     pub value: u32,
     pub next: usize,

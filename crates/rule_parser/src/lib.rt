@@ -1,5 +1,7 @@
 // From rule text to counts and masks (document 01, "Rule text" and rows 1 to 8 and 16 of "Numbered answers"): `prepare` gives a rule's answer,
 // `prepare_stored` a stored rule's, by rows 1 to 8 alone. In a mask bit 0 is the beginning, bit i is position i.
+#![tactic(auto)]
+
 ghost use Rattle.std.specs.Prelude.{◌≡◌, ◌≤◌, length};
 ghost use Rattle.model.specs.RuleText.{fold_flag, rule_limit, position_limit};
 ghost use Rattle.rule_element.specs.Reading.{KindFits};
@@ -13,7 +15,7 @@ use shift_and_wide::Wide;
 // A rule's answer: number 0 and place 0, the count of its positions, its shortest length, and the
 // masks of the positions that are optional and that repeat. Or the number and place of the refusal,
 // and zeros.
-#[derive(Drop)]
+#[derive(Clone, Copy)]
 pub struct Prepared {
     pub number: u32,
     pub place: u32,
@@ -27,7 +29,7 @@ pub struct Prepared {
 pub const ONE_WORD: u32 = 64;
 
 // How many positions some elements make, and the masks of those that are optional and that repeat.
-#[derive(Drop)]
+#[derive(Clone, Copy)]
 pub struct RuleMasks {
     pub positions: u32,
     pub optional: Wide,

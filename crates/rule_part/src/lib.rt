@@ -1,6 +1,8 @@
 // The rule's part of a scan value: the table B in four planes, plane j having word j of each byte's entry, and
 // then R, A, the number of positions and the state D. It knows no plan, so that a plan may be scanned for
 // several of them.
+#![tactic(auto)]
+
 ghost use Rattle.std.specs.Prelude.{◌≡◌, ◌+◌, ◌≤◌, length};
 ghost use Rattle.rule_part.specs.RulePart.{rule_length, words_at, masks_of, RulePossibleIs, WordsPut, begun};
 

@@ -1,5 +1,7 @@
 // Note 10's rewriter of stored rules: an outer gap of unequal bounds becomes dots, from the front and then from the back. What is left
 // of a rule is a stretch of its bytes, with dots before and after it, so that the finished text is judged before a byte is written.
+#![tactic(auto)]
+
 ghost use Rattle.std.specs.Prelude.{◌≡◌, ◌≤◌, length};
 ghost use Rattle.model.specs.RuleText.{rule_limit};
 ghost use Rattle.model.specs.NumberedAnswers.{overwrite};
@@ -33,7 +35,7 @@ pub struct Cut {
 }
 
 // The finished text: dots, the rule's bytes from `from` up to `to`, and dots.
-#[derive(Drop)]
+#[derive(Clone, Copy)]
 pub struct Rewriting {
     pub front: u32,
     pub from: usize,

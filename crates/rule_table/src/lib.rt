@@ -1,6 +1,8 @@
 // The table of a rule: for each byte the mask of the positions that admit it. Forwards position i stands at bit i, reversed at bit n + 1 - i,
 // n being the number of positions. A mask has four words, and a lent table four planes of 256: plane j
 // has word j of each byte's mask.
+#![tactic(auto)]
+
 ghost use Rattle.std.specs.Prelude.{◌≡◌, ◌≤◌, length};
 ghost use Rattle.model.specs.RuleText.{position_limit};
 ghost use Rattle.rule_element.specs.Reading.{size_of};

@@ -1,4 +1,6 @@
 // Opens a scan: the parts of a scan value for a rule, of whose plan nothing is read yet.
+#![tactic(auto)]
+
 ghost use Rattle.std.specs.Prelude.{◌≡◌};
 ghost use Rattle.model.specs.Codes.{smudged};
 ghost use Rattle.model.specs.RuleText.{fold_flag};

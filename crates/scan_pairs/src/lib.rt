@@ -1,4 +1,6 @@
 // A text that a piece lets out, stepped over in one word, and its ends stored as pairs. At any table and masks.
+#![tactic(auto)]
+
 ghost use Rattle.std.specs.Prelude.{◌+◌, ◌*◌, ◌<◌, ◌≤◌, ◌^◌, length};
 ghost use Rattle.model.specs.RawPlaces.{pair_numbers};
 ghost use Rattle.model.specs.References.{byte_tokens};

@@ -1,5 +1,7 @@
 // A piece of a plan, after held bytes: what it lets out is decoded and stepped over, its ends are stored as pairs, and what
 // it holds back is kept. At any table and masks, in one word.
+#![tactic(auto)]
+
 ghost use Rattle.std.specs.Prelude.{◌+◌, ◌-◌, ◌<◌, ◌≤◌, length};
 ghost use Rattle.prefilter.specs.Soundness.{PrefilterSound};
 ghost use Rattle.piece_decoder.specs.Held.{HeldFine};

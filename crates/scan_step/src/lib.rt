@@ -1,5 +1,7 @@
 // A call's bytes stepped over from the state of a scan value: those that a piece lets out after the bytes held back, by the
 // lowest word alone or in four; and those held back, at the finish.
+#![tactic(auto)]
+
 ghost use Rattle.std.specs.Prelude.{◌≡◌, length};
 ghost use Rattle.scan_value.specs.Value.{Possible, Fine};
 ghost use Rattle.scan_step.specs.Stepping.{start_of, low_start_of, LowFine, PieceStepped, TailStepped};

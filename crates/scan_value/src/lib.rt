@@ -1,5 +1,7 @@
 // A scan value: a lent slice of numbers, the rule's part and then the plan's. Which values are impossible, when a
 // scan call is refused, and how a value is read and written.
+#![tactic(auto)]
+
 ghost use Rattle.std.specs.Prelude.{◌≡◌, ◌<◌, ◌^◌, length};
 ghost use Rattle.piece_decoder.specs.Held.{held_of};
 ghost use Rattle.plan_part.specs.PlanPart.{LoadIs, HeldFits};

@@ -1,5 +1,5 @@
 -- An automaton over no bytes, and over two runs of them: over the first, and then over the second; and its ends rise. Assumes nothing.
-use Rattle.std.proofs.Common.{◌≡◌, ℕ, suc, ◌+◌, Bool, true, false, List, [], ◌∷◌, ◌++◌, length, sym, refl, ap, ◌∙◌, subst, add-zero, add-one, arith}
+use Rattle.std.proofs.Common.{◌≡◌, ℕ, suc, ◌+◌, Bool, true, false, List, [], ◌∷◌, ◌++◌, length, sym, refl, subst, add-zero, add-one, arith}
 use Rattle.model.specs.Occurrence.{cons_if}
 use Rattle.model.proofs.Places.{Rises, rises_next}
 use Rattle.shift_and.specs.Automaton.{Automaton, accepts, step_on, state_after, ends_in}

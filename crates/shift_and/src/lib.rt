@@ -2,6 +2,8 @@
 // an equation with a definition of `specs/ForwardStep.antt` at width 64, for any arguments.
 // `proofs/Closure.antt` says what its bits are, and `proofs/Bridge.antt` that it is the step of the
 // model's law where the masks are those of a list of positions.
+#![tactic(auto)]
+
 ghost use Rattle.std.specs.Prelude.{◌≡◌, ◌<◌};
 ghost use Rattle.shift_and.specs.ForwardStep as Step;
 

@@ -2,6 +2,8 @@
 // occurrence. They flood at each byte, as the formula does, and one of them stores ends without a branch.
 // They promise what every loop promises. `closure_unpredictable` tells such texts by the next bytes; only
 // speed depends on what it says.
+#![tactic(auto)]
+
 ghost use Rattle.std.specs.Prelude.{◌≡◌, ◌<◌, ◌≤◌, true, length, if◌then◌else◌, nat_eq};
 ghost use Rattle.shift_and_step.specs.Stepping.{TableFits};
 ghost use Rattle.shift_and_loop.specs.Loops.{Advanced, HasRoom};

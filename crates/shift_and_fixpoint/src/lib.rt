@@ -1,5 +1,7 @@
 // The loop that skips bytes at which the state stays, for rules with positions that are optional and repeat,
 // and the choice of a loop by what the masks allow. Both promise what every loop promises.
+#![tactic(auto)]
+
 ghost use Rattle.std.specs.Prelude.{◌≤◌, length};
 ghost use Rattle.shift_and_step.specs.Stepping.{TableFits};
 ghost use Rattle.shift_and_step.specs.ClosedStates.{ClosureMasksOf, Closed};

@@ -1,6 +1,8 @@
 // Loops that do the forward step over decoded bytes from a place on, the ends stored in a lent list, at
 // any table and masks. A loop promises what the formula gives byte by byte; it floods only where that
 // changes something.
+#![tactic(auto)]
+
 ghost use Rattle.std.specs.Prelude.{◌≡◌, ◌+◌, ◌-◌, ◌^◌, ◌<◌, ◌≤◌, length};
 ghost use Rattle.shift_and_step.specs.Stepping.{TableFits};
 ghost use Rattle.shift_and_step.specs.ClosedStates.{ClosureMasksOf, Closed};
@@ -10,7 +12,7 @@ use shift_and_step::{ClosureMasks, Masks};
 
 // A place in the text: the state, the count of bytes before it, the count of ends stored, and the
 // index of the next byte.
-#[derive(Drop)]
+#[derive(Clone, Copy)]
 pub struct Cursor {
     pub d: u64,
     pub at: u32,

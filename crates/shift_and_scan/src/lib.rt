@@ -1,5 +1,7 @@
 // The automaton over decoded bytes, at any table and masks. `scan_text` promises what the formula gives byte
 // by byte: by a prefilter it skips what changes nothing in the start state, and loops on from there.
+#![tactic(auto)]
+
 ghost use Rattle.std.specs.Prelude.{◌≡◌, ◌+◌, ◌^◌, ◌<◌, ◌≤◌, length};
 ghost use Rattle.shift_and_step.specs.Stepping.{automaton_of, TableFits};
 ghost use Rattle.prefilter.specs.Soundness.{PairSound, PrefilterSound};
@@ -104,7 +106,7 @@ fn stop_at(kind: u64, i: usize, j: usize, end: usize) -> usize
 }
 
 // What a segment of a scan comes to: the place, and how many bytes were looped over and not skipped.
-#[derive(Drop)]
+#[derive(Clone, Copy)]
 pub struct Segment {
     pub to: Cursor,
     pub looped: usize,

@@ -1,13 +1,15 @@
 // The forward step of document 01 on one byte, at any masks. `step` does the formula, for any state; a
 // state as a step leaves it allows shorter ways to the same, by what `closure_masks` keeps of the masks. The
 // loops and the window search step by them.
+#![tactic(auto)]
+
 ghost use Rattle.std.specs.Prelude.{◌≡◌, ◌%◌, true, bit_and};
 ghost use Rattle.shift_and.specs.ForwardStep as Step;
 ghost use Rattle.shift_and_step.specs.Stepping.{step_n};
 ghost use Rattle.shift_and_step.specs.ClosedStates.{ClosureMasksOf, Closed, ClosedIs, StepsTo, Fixpoint};
 
 // A rule's masks, and the number of its top position.
-#[derive(Drop)]
+#[derive(Clone, Copy)]
 pub struct Masks {
     pub repeats: u64,
     pub optional: u64,
@@ -34,7 +36,7 @@ pub fn step(d: u64, b: u64, k: u64, m: Masks) -> u64
 // change a state that has one of them. `separated`: no bit after a block is the bit before another.
 // `starred`: a position is optional and repeats, as in `.*`, so that it pays to skip bytes at which a
 // state stays; only speed depends on it.
-#[derive(Drop)]
+#[derive(Clone, Copy)]
 pub struct ClosureMasks {
     pub start: u64,
     pub minuend: u64,

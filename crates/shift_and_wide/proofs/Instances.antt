@@ -1,5 +1,5 @@
 -- From the step over the number of words: the step of the model's law where the masks are those of a list of positions; one word; and four. Assumes nothing.
-use Rattle.std.proofs.Common.{◌≡◌, ℕ, zero, suc, ◌+◌, ◌-◌, ◌*◌, ◌/◌, ◌%◌, ◌^◌, ◌<◌, ◌≤◌, Bool, true, false, List, [], ◌∷◌, ◌++◌, length, sym, refl, ap, ◌∙◌, subst, ap₂, add-zero, mod-eq_of_lt, one-mul, arith, pow_pos}
+use Rattle.std.proofs.Common.{◌≡◌, ℕ, zero, suc, ◌+◌, ◌*◌, ◌^◌, ◌<◌, ◌≤◌, Bool, true, false, List, [], ◌∷◌, ◌++◌, length, sym, refl, ap, ◌∙◌, subst, ap₂, add-zero, mod-eq_of_lt, one-mul, arith, pow_pos}
 use lib.Arith.{digits_mod}
 use lib.Bits.{bit_and}
 use Rattle.model.specs.Occurrence.{Position, one_if, cons_if, is_end}
@@ -11,7 +11,7 @@ use Rattle.shift_and.specs.Masks.{mask, Encodes}
 use Rattle.shift_and.proofs.MaskLaws.{mask_fits}
 use Rattle.shift_and.proofs.Bridge.{Scanned, Anchored, scanned_open, scanned_step, scanned_top, anchored_step}
 use Rattle.shift_and_wide.specs.declared.Wide.{Wide}
-use Rattle.shift_and_wide.specs.ManyWords.{first, above, value, Words, move_words, flood_words, starts_words, ends_words, step_words}
+use Rattle.shift_and_wide.specs.ManyWords.{value, Words, move_words, flood_words, starts_words, ends_words, step_words}
 use Rattle.shift_and_wide.specs.Wides.{words, number, moved, flooded, starts_of, ends_of, stepped, opening_of}
 use Rattle.shift_and_wide.specs.Stepping.{WideAutomaton, numbered, step_on_w, opening_state_w, accepts_w, state_after_w, ends_in_w}
 use Rattle.shift_and_wide.proofs.Wides.{top-number}

@@ -1,10 +1,9 @@
 -- Where the lowest word does the step alone. Below bit v the step does not depend on what stands from v on; and nothing gets past it while bit v - 1 stays
 -- clear. Assumes nothing.
-use Rattle.std.proofs.Common.{◌≡◌, ℕ, zero, suc, ◌+◌, ◌-◌, ◌*◌, ◌/◌, ◌%◌, ◌^◌, ◌<◌, ◌≤◌, Bool, true, false, not, ◌&&◌, ◌||◌, List, [], ◌∷◌, sym, refl, ap, ◌∙◌, subst, ap₂, le_of_suc-le-suc, lt_of_le_of_lt, add-zero, mod-lt, arith, pow_pos, pow_mono}
+use Rattle.std.proofs.Common.{◌≡◌, ℕ, zero, suc, ◌+◌, ◌-◌, ◌%◌, ◌^◌, ◌<◌, ◌≤◌, Bool, true, false, ◌&&◌, ◌||◌, sym, refl, ap, ◌∙◌, ap₂, add-zero, mod-lt, arith, pow_pos, pow_mono}
 use native.Mathlib.Decide.{dec_lt}
-use lib.Bits.{bit_and, bit_or}
 use Rattle.shift_and.specs.Bit.{bit}
-use Rattle.shift_and.specs.ForwardStep.{move, flood, advance, block_starts, block_ends}
+use Rattle.shift_and.specs.ForwardStep.{move, advance, block_starts, block_ends}
 use Rattle.shift_and.proofs.Digits.{bit-above, mod_bit}
 use Rattle.shift_and.proofs.DisjointBits.{same_bits}
 use Rattle.shift_and.proofs.Closure.{closed, moved, step_bit_lem}

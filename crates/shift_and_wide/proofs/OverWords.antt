@@ -2,9 +2,9 @@
 -- word and the words above it are two digits of the number, and the operation on two digits passes one bit from the one to the other. Assumes nothing.
 use Rattle.std.proofs.Common.{◌≡◌, ℕ, zero, suc, ◌+◌, ◌-◌, ◌*◌, ◌/◌, ◌%◌, ◌^◌, ◌<◌, ◌≤◌, Bool, true, false, ltb, List, [], ◌∷◌, sym, refl, ap, ◌∙◌, ap₂, lt_of_le_of_lt, add-zero, mul-le-mul_right, mod-lt, mod-eq_of_lt, zero-lt-suc, mul_assoc, suc-mul, add-mul, div-add-mod', sub-add_cancel, mul_right_comm, arith, pow_pos, pow-add, ltb-false, ltb-true}
 use native.Mathlib.Nat.{mul-add-div_right, add-mul-mod_self_right, mod-one}
-use lib.Arith.{digits_lt, digits_div, digits_mod}
+use lib.Arith.{digits_lt, digits_mod}
 use lib.Pow.{mod-pow-add, ones_split, ones_lt, le_ones}
-use lib.Bits.{bit_and, bit_or, bit_xor, block_odd, and_zero_l, and_zero_r, or_zero_r, and_le_l, and_le_r, and_lt, or_lt, xor_lt, and_block, or_block, xor_block}
+use lib.Bits.{bit_and, bit_or, bit_xor, block_odd, and_zero_l, and_zero_r, and_le_l, and_le_r, and_lt, or_lt, xor_lt, and_block, or_block, xor_block}
 use lib.Count.{ones, ones_cat}
 use Rattle.model.specs.Occurrence.{one_if}
 use Rattle.shift_and.specs.ForwardStep.{wrap_sub, move, flood, advance, block_starts, block_ends, shortest}

@@ -1,13 +1,13 @@
 -- Four words as one number: the step, the opening and the shortest length are those of document 01 at 256 bits, and the top bit is found in its word; and what
 -- the functions on four words need. Assumes nothing.
-use Rattle.std.proofs.Common.{◌≡◌, ℕ, zero, suc, ◌+◌, ◌-◌, ◌*◌, ◌/◌, ◌%◌, ◌^◌, ◌<◌, ◌≤◌, Bool, true, false, not, eqb, List, [], ◌∷◌, get_or, take, drop, sym, refl, ap, ◌∙◌, ap₂, true≢false, lt_of_le_of_lt, add-zero, suc-add, zero-add, one-add, arith, get_or-drop, get_or-take, pow_pos, shr-shr, eqb-true}
+use Rattle.std.proofs.Common.{◌≡◌, ℕ, zero, suc, ◌+◌, ◌-◌, ◌*◌, ◌/◌, ◌%◌, ◌^◌, ◌<◌, ◌≤◌, Bool, true, false, not, eqb, List, [], ◌∷◌, get_or, take, drop, sym, refl, ap, ◌∙◌, ap₂, true≢false, lt_of_le_of_lt, suc-add, zero-add, one-add, arith, get_or-drop, get_or-take, shr-shr, eqb-true}
 use native.Mathlib.Decide.{dec_lt}
 use lib.Arith.{digits_div, digits_mod}
 use lib.Bits.{bit_and, and_le_l}
-use lib.Count.{ones, ones_cat, ones-le}
+use lib.Count.{ones-le}
 use borrow.Author.Tests.{not-false}
 use Rattle.shift_and.specs.Bit.{bit}
-use Rattle.shift_and.specs.ForwardStep.{flood, top_bit, shortest}
+use Rattle.shift_and.specs.ForwardStep.{top_bit, shortest}
 use Rattle.shift_and.proofs.Digits.{mod_bit}
 use Rattle.shift_and.proofs.Bridge.{top-bit}
 use Rattle.shift_and.proofs.Unchanged.{flood-none}

@@ -1,10 +1,10 @@
 -- Document 01's edges as note 8 moves them, by computing: a carry and a block of optional positions over each border of words, repeats at bits 63, 64 and 255, the
 -- top bit in each word. Assumes nothing.
-use Rattle.std.specs.Prelude.{◌≡◌, ℕ, ◌+◌, ◌-◌, ◌*◌, ◌^◌, Bool, true, false, refl}
+use Rattle.std.specs.Prelude.{◌≡◌, ℕ, ◌+◌, ◌-◌, true, false, refl}
 use Rattle.shift_and.specs.ForwardStep.{flood, top_bit}
 use Rattle.shift_and_wide.specs.declared.Wide.{Wide}
 use Rattle.shift_and_wide.specs.ManyWords.{flood_words, move_words, starts_words, ends_words}
-use Rattle.shift_and_wide.specs.Wides.{no_bits, word_of, words_of, ones_from, moved, flooded, starts_of, ends_of, stepped, top_bit_of}
+use Rattle.shift_and_wide.specs.Wides.{no_bits, words_of, ones_from, moved, flooded, starts_of, ends_of, stepped, top_bit_of}
 
 -- one bit of 256
 abbrev at : ℕ → Wide

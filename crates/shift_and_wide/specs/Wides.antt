@@ -2,7 +2,7 @@
 use Rattle.std.specs.Prelude.{◌≡◌, ℕ, ◌-◌, ◌*◌, ◌/◌, ◌%◌, ◌^◌, ◌<◌, Bool, List, [], ◌∷◌, bit_or, slice_index}
 use Rattle.shift_and.specs.ForwardStep.{top_bit}
 use Rattle.shift_and_wide.specs.declared.Wide.{Wide}
-use Rattle.shift_and_wide.specs.ManyWords.{first, above, value, move_words, flood_words, starts_words, ends_words, step_words}
+use Rattle.shift_and_wide.specs.ManyWords.{first, above, value, move_words, flood_words, starts_words, ends_words}
 
 abbrev pub words : Wide → List ℕ
 words x = x.w0 ∷ x.w1 ∷ x.w2 ∷ x.w3 ∷ []

@@ -1,13 +1,15 @@
 // The forward step on four words of 64 bits, lowest first: the bit shifted out and the flood's borrow
 // pass from word to word. Each contract is an equation with a definition of `specs/`, over words;
 // `proofs/OverWords.antt` says that this is document 01's formula on one number of 256 bits.
+#![tactic(auto)]
+
 ghost use Rattle.std.specs.Prelude.{◌≡◌, ◌+◌, ◌-◌, ◌*◌, ◌/◌, ◌%◌, ◌^◌, ◌<◌, ◌≤◌, length};
 ghost use Rattle.shift_and.specs.ForwardStep as Step;
 ghost use Rattle.shift_and_wide.specs.ManyWords.{move_word, carry, borrows, half, double_of};
 ghost use Rattle.shift_and_wide.specs.Wides.{moved, flooded, starts_of, ends_of, opening_of, number, word_of, no_bits, ones_from, laid_on, top_bit_of, Passes};
 ghost use Rattle.shift_and_wide.specs.Stepping.{RequiredIs, NoneIs, BlocksAre, step_w, entry_of};
 
-#[derive(Drop)]
+#[derive(Clone, Copy)]
 pub struct Wide {
     pub w0: u64,
     pub w1: u64,
@@ -149,7 +151,7 @@ pub fn block_ends(q: Wide) -> Wide
 }
 
 // A rule's masks, and the number of its top position.
-#[derive(Drop)]
+#[derive(Clone, Copy)]
 pub struct WideMasks {
     pub repeats: Wide,
     pub optional: Wide,
@@ -158,7 +160,7 @@ pub struct WideMasks {
 
 // What a run keeps at hand of the optional positions: the bit before each block, the last bit of each,
 // and whether there is any.
-#[derive(Drop)]
+#[derive(Clone, Copy)]
 pub struct WideBlocks {
     pub starts: Wide,
     pub ends: Wide,

@@ -1,4 +1,6 @@
 // The window search of a whole decoded text.
+#![tactic(auto)]
+
 ghost use Rattle.std.specs.Prelude.{◌≡◌, ◌<◌, ◌≤◌, length};
 ghost use Rattle.model.specs.RuleText.{position_limit};
 ghost use Rattle.text_search.specs.Searching.{WholeIs, Ready, ReadyLow, PreparedIs, LowPreparedIs, low_masks, FoundIs, WorkIs, SearchIs};

@@ -1,4 +1,6 @@
 // The part of a decoded text that is shown: an occurrence, from its start to the earliest end there. It takes no codes.
+#![tactic(auto)]
+
 ghost use Rattle.text_show.specs.Showing.{Showable, ShowableLow, PartIs, ShownIs, ShowsPart};
 ghost use Rattle.std.specs.Prelude.{length};
 

@@ -1,4 +1,6 @@
 // Writes bytes to a lent buffer, at a place of it.
+#![tactic(auto)]
+
 ghost use Rattle.std.specs.Prelude.{◌+◌, ◌≤◌, length};
 ghost use Rattle.text_writer.specs.Writing.{TailCopied, Filled};
 

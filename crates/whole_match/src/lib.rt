@@ -1,5 +1,7 @@
 // Whether a rule covers a seat name from its first byte to its last (note 2). The name is read once, forwards and without new beginnings, and
 // no further where no state is left. It takes no codes, and decodes nothing.
+#![tactic(auto)]
+
 ghost use Rattle.std.specs.Prelude.{◌≡◌};
 ghost use Rattle.model.specs.RuleText.{fold_flag};
 ghost use Rattle.model.specs.NumberedAnswers.{rule_positions};

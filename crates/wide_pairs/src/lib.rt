@@ -1,5 +1,7 @@
 // A text that a piece lets out, stepped over in four words, and its ends stored as pairs. At any table and masks, as the
 // rule's part of a scan value has them.
+#![tactic(auto)]
+
 ghost use Rattle.std.specs.Prelude.{◌+◌, ◌*◌, ◌<◌, ◌≤◌, ◌^◌, length};
 ghost use Rattle.model.specs.RawPlaces.{pair_numbers};
 ghost use Rattle.model.specs.References.{byte_tokens};

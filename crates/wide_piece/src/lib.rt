@@ -1,5 +1,7 @@
 // A piece of a plan, after held bytes, in four words: what it lets out is decoded and stepped over, its ends are stored as
 // pairs, and what it holds back is kept. At any table and masks, as the rule's part of a scan value has them.
+#![tactic(auto)]
+
 ghost use Rattle.std.specs.Prelude.{◌+◌, ◌-◌, ◌<◌, ◌≤◌, length};
 ghost use Rattle.piece_decoder.specs.Held.{HeldFine};
 ghost use Rattle.piece_stepping.specs.Stepping.{Space};

@@ -1,5 +1,7 @@
 // How to run over decoded bytes, at any table of four planes and any masks: by the lowest word alone, where that is
 // what the four words give; else in parts that it tries first, or in four words. Only speed depends on the choice.
+#![tactic(auto)]
+
 ghost use Rattle.std.specs.Prelude.{◌≡◌, length};
 ghost use Rattle.wide_prefilter.specs.Choosing.{QuietIs, MayTryLow, low_masks, EvenIs, LowIs, Lowest, LowestIs, LowestSound, WideSound, FitsOne};
 ghost use Rattle.rule_part.specs.RulePart.{rule_length, entries_of, masks_of, state_of};
@@ -165,7 +167,7 @@ pub fn fits_one(rule: &[u64], p: Prefilter) -> bool
 }
 
 // How to run otherwise: whether in parts, and then the prefilter of the lowest word; or all in four words.
-#[derive(Drop)]
+#[derive(Clone, Copy)]
 pub struct WidePrefilter {
     pub filter: Prefilter,
     pub parts: bool,

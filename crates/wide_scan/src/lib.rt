@@ -1,5 +1,7 @@
 // A run over decoded bytes in four words, at any table of four planes and any masks: it promises what
 // the formula gives byte by byte.
+#![tactic(auto)]
+
 ghost use Rattle.std.specs.Prelude.{◌≡◌, ◌+◌, ◌<◌, ◌≤◌, ◌^◌, length};
 ghost use Rattle.wide_scan.specs.Running.{WideScanned, WideStepped, AttemptIs, PartFits, PartIs, PartEnd, TextFits, RuleSteps, RuleFits};
 ghost use Rattle.wide_prefilter.specs.Choosing.{LowSound};

@@ -1,5 +1,7 @@
 // The readings of `window_reader` in four words, for rules of up to 255 positions. The contracts are its
 // records, at the automaton on numbers of 256 bits; a table has four planes.
+#![tactic(auto)]
+
 ghost use Rattle.std.specs.Prelude.{◌≡◌, ◌≤◌, ◌<◌, length};
 ghost use Rattle.shift_and.specs.ForwardStep.{opening, top_bit};
 ghost use Rattle.shift_and.specs.Automaton.{step_with, step_on};

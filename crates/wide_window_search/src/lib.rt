@@ -1,5 +1,7 @@
 // The window search of `window_search` in four words, for rules of up to 255 positions, with its budget
 // for verifying and its records: only the tables and the states are wider.
+#![tactic(auto)]
+
 ghost use Rattle.std.specs.Prelude.{◌≡◌, ◌+◌, ◌≤◌, ◌<◌, ◌^◌, length};
 ghost use Rattle.shift_and_wide.specs.Wides.{number};
 ghost use Rattle.shift_and_wide.specs.Stepping.{BlocksAre, entry_of, wide_automaton_of, numbered, WideTableFits};
@@ -14,7 +16,7 @@ use window_reader::End;
 use window_search::{Found, Part, Tried};
 
 // A prepared rule, beside its two tables: its shortest length, and its masks in both directions.
-#[derive(Drop)]
+#[derive(Clone, Copy)]
 pub struct WideRule {
     pub shortest: usize,
     pub forward: WideMasks,

@@ -1,6 +1,8 @@
 // The window search's readings of a text, over prepared tables: a window backwards, a start forwards,
 // and all the text backwards. Each contract is an equation with a definition of `specs/Reading.antt`,
 // for any table and masks.
+#![tactic(auto)]
+
 ghost use Rattle.std.specs.Prelude.{◌≡◌, ◌+◌, ◌≤◌, ◌<◌, length};
 ghost use Rattle.shift_and_step.specs.Stepping.{automaton_of, TableFits};
 ghost use Rattle.window_reader.specs.Reading.{Window, LastByteStates, Unread, WindowIs, SurelyMisses, EndIs, CountIs, WriteFine, WroteIs, RestFine, WrittenIs};

@@ -1,6 +1,8 @@
 // The window search over prepared tables. Verifying window after window takes quadratic time on some
 // texts. So it has a budget, and where that does not reach, the rest of the starts comes from two
 // readings of the text backwards. Starts, their order and the count of windows are the same either way.
+#![tactic(auto)]
+
 ghost use Rattle.std.specs.Prelude.{◌≡◌, ◌+◌, ◌*◌, ◌≤◌, ◌<◌, ◌^◌, length, get_or};
 ghost use Rattle.shift_and_step.specs.Stepping.{automaton_of, TableFits};
 ghost use Rattle.window_reader.specs.Reading.{Window};
@@ -11,7 +13,7 @@ use shift_and_step::Masks;
 use window_reader::End;
 
 // A prepared rule, beside its two tables: its shortest length, and its masks in both directions.
-#[derive(Drop)]
+#[derive(Clone, Copy)]
 pub struct Rule {
     pub shortest: usize,
     pub forward: Masks,

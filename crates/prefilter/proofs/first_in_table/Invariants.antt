@@ -1,0 +1,10 @@
+-- What the loop of `first_in_table` keeps, and what falls.
+use Rattle.std.proofs.Common.{◌-◌}
+use Rattle.byte_search.specs.BlockTests.{NoneBefore, meets}
+use Rattle.prefilter.proofs.first_in_table.Given as goal
+
+abbrev pub invariant-loop-c : goal.invariant-loop-c
+invariant-loop-c l = NoneBefore (meets l.table l.next) 0 256 l.c
+
+abbrev pub decreases-loop-c : goal.decreases-loop-c
+decreases-loop-c l = 256 - l.c

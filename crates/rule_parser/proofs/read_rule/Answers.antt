@@ -1,0 +1,24 @@
+-- The goals of `read_rule` that want a law of this crate.
+use native.Mathlib.Omega.{arith}
+use Prim.Native.Nat.{◌-◌}
+use Rattle.rule_parser.proofs.RuleLaws.{begun, rule-over, rule-refused, next_fits, next-ahead, rule-turn}
+use Rattle.rule_parser.proofs.read_rule.Goals as goal
+
+pub loop-at-init : goal.loop-at-init
+loop-at-init c = search begun
+
+pub returns-in-Refused : goal.returns-in-Refused
+returns-in-Refused c = search rule-refused
+
+pub add_element-t-requires : goal.add_element-t-requires
+add_element-t-requires c = search next_fits
+
+pub loop-at-smaller : goal.loop-at-smaller
+loop-at-smaller c = let m = next-ahead _ _ _ _ _ c.loop-at.invariant c.loop-at-test.true _ c.read_element-e.ensures _ _ c.in-Got.is in
+    omega arith
+
+pub loop-at-preserved : goal.loop-at-preserved
+loop-at-preserved c = search rule-turn
+
+pub returns : goal.returns
+returns c = search rule-over

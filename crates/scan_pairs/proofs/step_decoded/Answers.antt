@@ -1,0 +1,13 @@
+-- The goals of `step_decoded` that want a law of this crate.
+use mathlib.Core.Path.{refl}
+use Rattle.piece_stepping.proofs.Steps.{stored_laid, stepped_laid}
+use borrow.Author.Rules.{rules}
+use Rattle.scan_pairs.proofs.step_decoded.Goals as goal
+
+pub overflow_add-stored : goal.overflow_add-stored
+overflow_add-stored c = let x = c.scan_decoded-r.ensures in
+    let h = stored_laid _ _ _ _ c.args.text.now c.requires.space refl x.few in
+    search (h, rules)
+
+pub returns : goal.returns
+returns c = search stepped_laid

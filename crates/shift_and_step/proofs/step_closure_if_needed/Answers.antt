@@ -1,0 +1,12 @@
+-- The goals of `step_closure_if_needed` that want a law of this crate.
+use Rattle.shift_and_step.proofs.Steps.{has-start, step_still, step_flood}
+use Rattle.shift_and_step.proofs.step_closure_if_needed.Goals as goal
+
+pub move_keeping_start-x-requires : goal.move_keeping_start-x-requires
+move_keeping_start-x-requires c = search has-start
+
+pub returns-then-x-q-eq0 : goal.returns-then-x-q-eq0
+returns-then-x-q-eq0 c = search step_still
+
+pub returns : goal.returns
+returns c = search step_flood

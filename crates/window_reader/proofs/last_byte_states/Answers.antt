@@ -1,0 +1,13 @@
+-- The goals of `last_byte_states` that want a law of this crate.
+use Prim.Native.Nat.{◌-◌}
+use Rattle.window_reader.proofs.WindowLaws.{firsts-begun, firsts-on, firsts-over}
+use Rattle.window_reader.proofs.last_byte_states.Goals as goal
+
+pub loop-c-init : goal.loop-c-init
+loop-c-init c = search firsts-begun
+
+pub loop-c-preserved : goal.loop-c-preserved
+loop-c-preserved c = search firsts-on
+
+pub returns : goal.returns
+returns c = search firsts-over
