@@ -1,13 +1,13 @@
 -- Tokens decoded with their marks. On plain values. Assumes nothing.
 use mathlib.Core.Path.{◌≡◌, refl, sym, ap, subst, ◌∙◌}
 use mathlib.Core.Bool.{Bool, true, false, true≢false}
-use mathlib.Core.List.{List, [], ◌∷◌, ◌++◌, append-nil}
+use mathlib.Core.List.{List, [], ◌++◌}
 use Prim.Native.Nat.{ℕ, suc, ◌+◌, ◌-◌, ◌*◌, ◌≤◌, ◌<◌}
 use native.Mathlib.Omega.{arith}
 use lib.ListN.{length, drop, get_or, set, length-set, length-append, drop_of_length-le}
 use lib.Seq.{get_or-set_same, get_or-set_other}
-use Rattle.model.specs.References.{form_limit, Token, byte_tokens, taken, joined, held_tail}
-use Rattle.entry_list.specs.Marks.{mark_numbers, start_of, after_of, ahead_of, Marked}
+use Rattle.model.specs.References.{form_limit, Token, taken, joined, held_tail}
+use Rattle.entry_list.specs.Marks.{mark_numbers, Marked}
 use Rattle.entry_list.proofs.MarkLaws.{marked-none, marked-bytes, marked_reference}
 use Rattle.piece_decoder.specs.declared.TokenRead.{TokenRead}
 use Rattle.piece_decoder.specs.Chunks.{TokenIs, NoteFits, NotedIs, MarkedIs, chunk_size, mark_limit, marks_size}

@@ -1,18 +1,17 @@
 -- Held bytes and the head of a piece, and then the rest of it. On plain values. Assumes nothing.
 use mathlib.Core.Path.{◌≡◌, refl, sym, ap, subst, ◌∙◌}
 use mathlib.Core.List.{List, [], ◌∷◌, ◌++◌, append-nil}
-use Prim.Native.Nat.{ℕ, ◌+◌, ◌-◌, ◌^◌, ◌≤◌, ◌<◌}
+use Prim.Native.Nat.{ℕ, ◌+◌, ◌-◌, ◌≤◌}
 use native.Mathlib.Omega.{arith}
 use lib.ListN.{length, take, drop, length-append, length-drop, length-take}
 use lib.Seq.{take_all, sets-eq, length-sets, take-append_seam}
 use mir.Val.{Fits}
 use mir.Syntax.{w64}
 use borrow.Rule.Slice.PartMut.{mid_of}
-use Rattle.model.specs.References.{form_limit, held_most, utf8, Token, byte_tokens, taken, joined, out_tokens}
+use Rattle.model.specs.References.{form_limit, held_most, utf8, Token, byte_tokens, joined, out_tokens}
 use Rattle.model.proofs.Places.{place-taken}
 use Rattle.entry_list.proofs.MarkLaws.{marked-none, marked_reference}
 use Rattle.model.proofs.Decoding.{joined_bytes, joined-run, taken-bytes, held-length, utf8_four}
-use Rattle.reference_reader.specs.Reader.{code_limit}
 use Rattle.reference_reader.specs.Utf8.{Put}
 use Rattle.piece_decoder.specs.declared.held.Held.{Held}
 use Rattle.piece_decoder.specs.declared.held.HeldOutcome.TheVariants.{Completed, Literal, Pending}

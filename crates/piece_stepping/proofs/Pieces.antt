@@ -1,14 +1,14 @@
 -- A piece with nothing held: part by part, and all of it. On plain values. Assumes nothing.
 use mathlib.Core.Path.{◌≡◌, refl, sym, ap, subst, ◌∙◌}
 use mathlib.Core.Bool.{Bool, true, false, true≢false}
-use mathlib.Core.List.{List, [], ◌∷◌, ◌++◌, append-nil, append_assoc}
+use mathlib.Core.List.{List, [], ◌++◌, append-nil, append_assoc}
 use Prim.Native.Nat.{ℕ, ◌+◌, ◌-◌, ◌^◌, ◌≤◌, ◌<◌}
 use native.Mathlib.Omega.{arith}
 use lib.ListN.{length, take, drop, length-append, length-take, drop_of_length-le}
 use mir.Val.{Fits}
 use mir.Syntax.{w32}
 use borrow.Rule.Slice.PartMut.{mid_of}
-use Rattle.model.specs.References.{form_limit, Token, byte_tokens, taken, joined}
+use Rattle.model.specs.References.{form_limit, Token, byte_tokens, joined}
 use Rattle.model.proofs.Decoding.{joined-append, joined_bytes, taken-bytes}
 use Rattle.model.proofs.Places.{place-taken}
 use Rattle.model.proofs.Cuts.{out_held}

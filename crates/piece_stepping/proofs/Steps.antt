@@ -1,6 +1,6 @@
 -- Stepping over tokens from where a call stands: one run of them, none, and one run after another. On plain values. Assumes nothing.
 use mathlib.Core.Path.{◌≡◌, refl, sym, ap, ap₂, subst, ◌∙◌}
-use mathlib.Core.List.{List, [], ◌∷◌, ◌++◌}
+use mathlib.Core.List.{List, [], ◌++◌}
 use Prim.Native.Nat.{ℕ, ◌+◌, ◌-◌, ◌*◌, ◌^◌, ◌≤◌, ◌<◌}
 use native.Mathlib.Nat.{add-zero}
 use native.Mathlib.Omega.{arith}
@@ -10,13 +10,13 @@ use mir.Val.{Fits}
 use mir.Syntax.{w64}
 use borrow.Rule.Slice.PartMut.{put_mid, mid_of}
 use Rattle.model.specs.References.{Token, byte_tokens, taken, joined}
-use Rattle.model.specs.RawPlaces.{Entry, entries_by, flat, pair_numbers}
+use Rattle.model.specs.RawPlaces.{entries_by, flat, pair_numbers}
 use Rattle.model.proofs.LentLists.{sets-append, sets-from, put_rest}
 use Rattle.model.proofs.Decoding.{joined-append, joined_bytes, taken-append, taken-bytes}
 use Rattle.model.proofs.Places.{Rises, placed-length, flat_append, flat-length, entries_append}
 use Rattle.entry_list.specs.Pairing.{even_place, uneven_place, EvenFits, UnevenFits, Paired}
 use Rattle.entry_list.proofs.Runs as Runs
-use Rattle.piece_stepping.specs.Stepping.{Runner, Standing, entries_from, PairsRan, SteppedBy, Space, Laid, LaidFits, LaidRan, LaidStepped}
+use Rattle.piece_stepping.specs.Stepping.{Runner, Standing, entries_from, PairsRan, SteppedBy, Space, LaidFits, LaidRan, LaidStepped}
 
 module _ {S : Type 0} (R : Runner S) where
   -- ---- a run, and then its ends as pairs

@@ -1,5 +1,5 @@
 -- The rule's part of a scan value: its layout, how it is read and written, and which parts are impossible. Assumes nothing.
-use Rattle.std.specs.Prelude.{◌≡◌, Bool, true, ◌&&◌, List, [], ◌∷◌, ◌++◌, ℕ, ◌+◌, ◌*◌, ◌≤◌, leb, length, get_or, take}
+use Rattle.std.specs.Prelude.{◌≡◌, Bool, true, ◌&&◌, List, ◌∷◌, ◌++◌, ℕ, ◌+◌, ◌≤◌, leb, length, get_or, take}
 use Rattle.std.proofs.lemmas.List.Edits.{sets}
 use Rattle.model.specs.RuleText.{position_limit}
 use Rattle.shift_and_wide.specs.declared.Wide.{Wide}

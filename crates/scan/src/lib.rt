@@ -1,4 +1,6 @@
 // The forward scan of a plan that comes in pieces: feed and finish, over a lent scan value.
+#![tactic(auto)]
+
 ghost use Rattle.std.specs.Prelude.{length};
 ghost use Rattle.scan_value.specs.Value.{Fine};
 ghost use Rattle.scan.specs.Calls.{FeedTaken, FinishTaken, FeedIs, FinishIs};

@@ -23,7 +23,7 @@ use Rattle.shift_and_step.specs.Stepping.{automaton_of, step_n}
 use Rattle.shift_and_wide.specs.declared.Wide.{Wide}
 use Rattle.shift_and_wide.specs.declared.WideMasks.{WideMasks}
 use Rattle.shift_and_wide.specs.ManyWords.{value, move_word, carry, move_words, flood_words, half, starts_words, ends_words}
-use Rattle.shift_and_wide.specs.Wides.{words, number, low, moved, flooded, starts_of, ends_of, stepped, top_bit_of}
+use Rattle.shift_and_wide.specs.Wides.{number, low, moved, flooded, starts_of, ends_of, stepped, top_bit_of}
 use Rattle.shift_and_wide.specs.Stepping.{entry_of, wide_automaton_of, step_on_w, state_after_w, ends_in_w}
 use Rattle.wide_prefilter.specs.Choosing.{low_masks}
 use Rattle.shift_and_wide.proofs.OverWords.{move-is}

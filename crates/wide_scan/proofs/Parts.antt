@@ -20,7 +20,6 @@ use Rattle.shift_and_wide.specs.declared.Wide.{Wide}
 use Rattle.shift_and_wide.specs.declared.WideMasks.{WideMasks}
 use Rattle.shift_and_wide.specs.Wides.{low}
 use Rattle.shift_and_wide.specs.Stepping.{state_after_w, ends_in_w, wide_automaton_of}
-use Rattle.shift_and_wide.proofs.Wides.{same}
 use Rattle.wide_scan.specs.declared.WideRun.{WideRun}
 use Rattle.wide_scan.specs.declared.Attempt.{Attempt}
 use Rattle.wide_scan.specs.Running.{WideStepped, AttemptIs, PartFits, PartIs, PartEnd}

@@ -1,5 +1,4 @@
 -- The goals of `fit` that want a law of this crate.
-use Prim.Native.Nat.{◌-◌}
 use Rattle.code_table.proofs.FitLaws.{table-begun, table-room, word-fittable, table-turn, table-over}
 use Rattle.code_table.proofs.fit.Goals as goal
 

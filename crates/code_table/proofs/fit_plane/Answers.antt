@@ -1,5 +1,4 @@
 -- The goals of `fit_plane` that want a law of this crate.
-use Prim.Native.Nat.{◌-◌}
 use borrow.Author.Rules.{rules}
 use Rattle.code_table.proofs.FitLaws.{fit_begun, fit_room, fit_end, fit_set-long, fit_turn, fit_over}
 use Rattle.code_table.proofs.fit_plane.Goals as goal

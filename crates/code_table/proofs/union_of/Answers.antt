@@ -1,5 +1,4 @@
 -- The goals of `union_of` that want a law of this crate.
-use Prim.Native.Nat.{◌-◌}
 use Rattle.code_table.proofs.FitLaws.{uniting, unite_turn, unite_pass, unite_over}
 use Rattle.code_table.proofs.union_of.Goals as goal
 

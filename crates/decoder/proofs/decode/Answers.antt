@@ -1,10 +1,5 @@
 -- The goals of `decode` that want a law of this crate.
 use Rattle.decoder.proofs.DecodeLaws.{too_long, too_short_lem, accepted}
-use Rattle.decoder.proofs.decode.Reads as reads
-use Rattle.decoder.proofs.decode.Lts as lts
-use Rattle.answers.proofs.counted.Reads as counted-reads
-use Rattle.answers.proofs.refused.Reads as refused-reads
-use Rattle.decoder.proofs.decode_all.Reads as decode-all-reads
 use Rattle.decoder.proofs.decode.Goals as goal
 
 pub returns-then-raw-gt-TEXT_LIMIT : goal.returns-then-raw-gt-TEXT_LIMIT

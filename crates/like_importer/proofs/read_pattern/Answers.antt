@@ -1,5 +1,4 @@
 -- The goals of `read_pattern` that want a law of this crate.
-use Prim.Native.Nat.{◌-◌}
 use Rattle.like_importer.proofs.MeasureLaws.{measure_begun, measure_over, measure_addable, measure_bad, measure_less, measure_turn}
 use Rattle.like_importer.proofs.read_pattern.Goals as goal
 

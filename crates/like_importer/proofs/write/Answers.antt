@@ -1,5 +1,4 @@
 -- The goals of `write` that want a law of this crate.
-use Prim.Native.Nat.{◌-◌}
 use Rattle.like_importer.proofs.ImportLaws.{write_begun, write_over, write_never, write_less, write_room, write_turn}
 use Rattle.like_importer.proofs.write.Goals as goal
 

@@ -1,5 +1,4 @@
 -- The goals of `blend` that want a law of this crate.
-use Prim.Native.Nat.{◌-◌}
 use Rattle.literal_run.proofs.Blocks.{fill_begun, mix_on, mix_over}
 use Rattle.literal_run.proofs.blend.Goals as goal
 

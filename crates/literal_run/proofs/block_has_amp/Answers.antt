@@ -1,6 +1,5 @@
 -- The goals of `block_has_amp` that want a law of this crate.
 use Rattle.byte_search.proofs.BlockLaws.{look_begun, same-on, look_over}
-use Prim.Native.Nat.{◌-◌}
 use Rattle.literal_run.proofs.block_has_amp.Goals as goal
 
 pub loop-j-init : goal.loop-j-init

@@ -1,6 +1,5 @@
 -- The goals of `copy_blocks` that want a law of this crate.
 use Rattle.literal_run.proofs.LiteralLaws.{blocks_begun, copy_block, blocks_copied}
-use Prim.Native.Nat.{◌-◌}
 use Rattle.literal_run.proofs.copy_blocks.Goals as goal
 
 pub loop-i-init : goal.loop-i-init

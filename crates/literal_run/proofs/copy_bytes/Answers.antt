@@ -1,5 +1,4 @@
 -- The goals of `copy_bytes` that want a law of this crate.
-use Prim.Native.Nat.{◌-◌}
 use Rattle.literal_run.proofs.LiteralLaws.{copy_begun, copy_byte, rest-stops, rest-ends}
 use Rattle.literal_run.proofs.copy_bytes.Goals as goal
 

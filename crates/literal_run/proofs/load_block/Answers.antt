@@ -1,6 +1,5 @@
 -- The goals of `load_block` that want a law of this crate.
 use Rattle.literal_run.proofs.Blocks.{fill_begun, slice_on, slice_over}
-use Prim.Native.Nat.{◌-◌}
 use Rattle.literal_run.proofs.load_block.Goals as goal
 
 pub loop-j-init : goal.loop-j-init

@@ -1,5 +1,4 @@
 -- The goals of `store_block` that want a law of this crate.
-use Prim.Native.Nat.{◌-◌}
 use Rattle.literal_run.proofs.Blocks.{put_begun, put_on, put_over}
 use Rattle.literal_run.proofs.store_block.Goals as goal
 

@@ -1,5 +1,4 @@
 -- The goals of `decode_marked` that want a law of this crate.
-use Prim.Native.Nat.{◌-◌}
 use Rattle.piece_decoder.proofs.TokenLaws.{less}
 use Rattle.piece_decoder.proofs.MarkedTokens.{marking, marking_room, note_fits, mark-turn, mark_stopped, mark-full, mark-over}
 use borrow.Author.Rules.{rules}

@@ -1,5 +1,4 @@
 -- The goals of `decode_tokens` that want a law of this crate.
-use Prim.Native.Nat.{◌-◌}
 use Rattle.piece_decoder.proofs.TokenLaws.{begun, turn, less, stopped, over}
 use Rattle.piece_decoder.proofs.decode_tokens.Goals as goal
 

@@ -1,5 +1,4 @@
 -- The goals of `load` that want a law of this crate.
-use Prim.Native.Nat.{◌-◌}
 use Rattle.plan_part.proofs.Fields.{loading, byte-place, load_turn, loaded}
 use Rattle.plan_part.proofs.load.Goals as goal
 

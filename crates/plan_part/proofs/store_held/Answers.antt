@@ -1,5 +1,4 @@
 -- The goals of `store_held` that want a law of this crate.
-use Prim.Native.Nat.{◌-◌}
 use Rattle.plan_part.proofs.Fields.{storing, pack_fine, store_turn, stored}
 use Rattle.plan_part.proofs.store_held.Goals as goal
 

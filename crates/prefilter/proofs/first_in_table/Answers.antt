@@ -1,5 +1,5 @@
 -- The goals of `first_in_table` that want a law of this crate.
-use Rattle.std.proofs.Common.{◌-◌, arith}
+use Rattle.std.proofs.Common.{arith}
 use Rattle.byte_search.proofs.BlockLaws.{miss_begun, meets-one}
 use Rattle.prefilter.proofs.first_in_table.Goals as goal
 

@@ -1,5 +1,5 @@
 -- The goals of `past_last_in_table` that want a law of this crate.
-use Rattle.std.proofs.Common.{◌-◌, arith}
+use Rattle.std.proofs.Common.{arith}
 use Rattle.byte_search.proofs.BlockLaws.{miss_begun, meets_down}
 use Rattle.prefilter.proofs.past_last_in_table.Goals as goal
 

@@ -1,5 +1,4 @@
 -- What the loop of `past_last_in_table` keeps, and what falls.
-use Rattle.std.proofs.Common.{◌-◌}
 use Rattle.byte_search.specs.BlockTests.{NoneBefore, meets}
 use Rattle.prefilter.proofs.past_last_in_table.Given as goal
 

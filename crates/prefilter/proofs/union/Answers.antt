@@ -1,5 +1,4 @@
 -- The goals of `union` that want a law of this crate.
-use Rattle.std.proofs.Common.{◌-◌}
 use Rattle.prefilter.proofs.PairTests.{unite_begun, unite_on, unite_over}
 use Rattle.prefilter.proofs.union.Goals as goal
 

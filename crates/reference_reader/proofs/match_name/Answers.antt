@@ -1,5 +1,4 @@
 -- The goals of `match_name` that want a law of this crate.
-use Prim.Native.Nat.{◌-◌}
 use Rattle.reference_reader.proofs.Numbers.{matching, matched_short, matched_differs, matched_same, matched_whole}
 use Rattle.reference_reader.proofs.match_name.Goals as goal
 

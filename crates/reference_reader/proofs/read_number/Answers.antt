@@ -1,6 +1,5 @@
 -- The goals of `read_number` that want a law of this crate.
 use Rattle.reference_reader.proofs.Numbers.{numbering, number_broken, number-empty, number-ends, number-turn, number_bare, number_bare_full, number_open, number-full}
-use Prim.Native.Nat.{◌-◌}
 use Rattle.reference_reader.proofs.read_number.Goals as goal
 
 pub loop-i-init : goal.loop-i-init

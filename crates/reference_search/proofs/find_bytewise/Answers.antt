@@ -1,5 +1,4 @@
 -- The goals of `find_bytewise` that want a law of this crate.
-use Prim.Native.Nat.{◌-◌}
 use Rattle.byte_search.proofs.BlockLaws.{miss_begun}
 use Rattle.reference_search.proofs.CandidateLaws.{amp-one}
 use Rattle.reference_search.proofs.find_bytewise.Goals as goal

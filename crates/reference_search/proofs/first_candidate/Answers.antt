@@ -1,5 +1,4 @@
 -- The goals of `first_candidate` that want a law of this crate.
-use Prim.Native.Nat.{◌-◌}
 use Rattle.byte_search.proofs.BlockLaws.{near-begun, near-over}
 use Rattle.reference_search.proofs.CandidateLaws.{amp-near}
 use Rattle.reference_search.proofs.first_candidate.Goals as goal

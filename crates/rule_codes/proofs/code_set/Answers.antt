@@ -1,5 +1,4 @@
 -- The goals of `code_set` that want a law of this crate.
-use Prim.Native.Nat.{◌-◌}
 use Rattle.rule_codes.proofs.CodeSets.{adding, add_turn, add_over}
 use Rattle.rule_codes.proofs.code_set.Goals as goal
 

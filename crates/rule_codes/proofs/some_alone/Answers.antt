@@ -1,5 +1,4 @@
 -- The goals of `some_alone` that want a law of this crate.
-use Prim.Native.Nat.{◌-◌}
 use Rattle.rule_codes.proofs.AloneLaws.{judge_begun, judge_over, judge_never, judge_less, judge_room, judge_alone, judge_on}
 use Rattle.rule_codes.proofs.some_alone.Goals as goal
 

@@ -1,6 +1,5 @@
 -- The goals of `read_rule` that want a law of this crate.
 use native.Mathlib.Omega.{arith}
-use Prim.Native.Nat.{◌-◌}
 use Rattle.rule_parser.proofs.RuleLaws.{begun, rule-over, rule-refused, next_fits, next-ahead, rule-turn}
 use Rattle.rule_parser.proofs.read_rule.Goals as goal
 

@@ -1,6 +1,5 @@
 -- The goals of `back_steps` that want a law of this crate.
 use borrow.Author.Rules.{rules}
-use Prim.Native.Nat.{◌-◌}
 use Rattle.rule_rewriter.proofs.BackLaws.{back-begun, back-within, back_never, back-room, back_less, back-turn, back-over}
 use Rattle.rule_rewriter.proofs.back_steps.Goals as goal
 

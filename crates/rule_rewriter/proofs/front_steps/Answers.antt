@@ -1,6 +1,5 @@
 -- The goals of `front_steps` that want a law of this crate.
 use borrow.Author.Rules.{rules}
-use Prim.Native.Nat.{◌-◌}
 use Rattle.rule_rewriter.proofs.FrontLaws.{front-begun, front-within, front_never, front-stays, front-room, front-done, front_less, front-again, front-over}
 use Rattle.rule_rewriter.proofs.front_steps.Goals as goal
 

@@ -1,5 +1,4 @@
 -- The goals of `admit_all` that want a law of this crate.
-use Prim.Native.Nat.{◌-◌}
 use Rattle.rule_table.proofs.GainLaws.{gaining, all-turn, gain_over}
 use Rattle.rule_table.proofs.admit_all.Goals as goal
 

@@ -1,5 +1,4 @@
 -- The goals of `admit_class` that want a law of this crate.
-use Prim.Native.Nat.{◌-◌}
 use Rattle.rule_table.proofs.GainLaws.{gaining, class-turn, class_pass, gain_over}
 use Rattle.rule_table.proofs.admit_class.Goals as goal
 

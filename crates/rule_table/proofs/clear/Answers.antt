@@ -1,5 +1,4 @@
 -- The goals of `clear` that want a law of this crate.
-use Prim.Native.Nat.{◌-◌}
 use Rattle.rule_table.proofs.GainLaws.{cleared_none, cleared_turn, cleared_all}
 use Rattle.rule_table.proofs.clear.Goals as goal
 

@@ -1,5 +1,4 @@
 -- The goals of `fill` that want a law of this crate.
-use Prim.Native.Nat.{◌-◌}
 use Rattle.rule_table.proofs.FillLaws.{planes_begun, plane_room, plane_fillable, planes_turn, planes_over}
 use Rattle.rule_table.proofs.fill.Goals as goal
 

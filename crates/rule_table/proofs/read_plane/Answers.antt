@@ -1,7 +1,6 @@
 -- The goals of `read_plane` that want a law of this crate.
 use borrow.Author.Rules.{rules}
 use native.Mathlib.Omega.{arith}
-use Prim.Native.Nat.{◌-◌}
 use Rattle.rule_table.proofs.FillLaws.{fill_begun, fill_never, fill_over, fill_ahead, fill_room, fill_turn}
 use Rattle.rule_table.proofs.read_plane.Goals as goal
 

@@ -1,5 +1,4 @@
 -- The goals of `changes_often` that want a law of this crate.
-use Rattle.std.proofs.Common.{◌-◌}
 use Rattle.shift_and_dense.proofs.BranchlessLaws.{steps_on}
 use Rattle.shift_and_dense.proofs.changes_often.Goals as goal
 

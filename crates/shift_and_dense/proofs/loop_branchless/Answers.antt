@@ -1,5 +1,4 @@
 -- The goals of `loop_branchless` that want a law of this crate.
-use Rattle.std.proofs.Common.{◌-◌}
 use Rattle.shift_and_loop.proofs.LoopLaws.{set_out, loop_over}
 use Rattle.shift_and_dense.proofs.BranchlessLaws.{loop_dense}
 use Rattle.shift_and_dense.proofs.loop_branchless.Goals as goal

@@ -1,5 +1,4 @@
 -- The goals of `loop_closure_always` that want a law of this crate.
-use Rattle.std.proofs.Common.{◌-◌}
 use Rattle.shift_and_loop.proofs.LoopLaws.{set_out, loop_over, loop_ended, loop_passed}
 use Rattle.shift_and_dense.proofs.loop_closure_always.Goals as goal
 

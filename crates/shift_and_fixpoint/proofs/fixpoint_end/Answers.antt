@@ -1,5 +1,4 @@
 -- The goals of `fixpoint_end` that want a law of this crate.
-use Prim.Native.Nat.{◌-◌}
 use Rattle.shift_and_fixpoint.proofs.FixpointLaws.{stay_none, stay_on}
 use Rattle.shift_and_fixpoint.proofs.fixpoint_end.Goals as goal
 

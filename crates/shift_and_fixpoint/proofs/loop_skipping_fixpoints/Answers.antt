@@ -1,5 +1,4 @@
 -- The goals of `loop_skipping_fixpoints` that want a law of this crate.
-use Prim.Native.Nat.{◌-◌}
 use Rattle.shift_and_loop.proofs.LoopLaws.{set_out, loop_over}
 use Rattle.shift_and_fixpoint.proofs.FixpointLaws.{stay_over, stay_passed, stay_ended, stay_stopped}
 use borrow.Author.Rules.{rules}

@@ -1,5 +1,4 @@
 -- The goals of `loop_no_closure` that want a law of this crate.
-use Prim.Native.Nat.{◌-◌}
 use Rattle.shift_and_loop.proofs.LoopLaws.{set_out, loop_passed, loop_ended, loop_stopped, loop_over}
 use Rattle.shift_and_loop.proofs.loop_no_closure.Goals as goal
 

@@ -1,5 +1,5 @@
 -- The goals of `scan_segment` that want a law of this crate.
-use Rattle.std.proofs.Common.{◌-◌, rules}
+use Rattle.std.proofs.Common.{rules}
 use Rattle.shift_and_scan.proofs.SegmentLaws.{begin, segment_stopped, segment_over, segment_room, turn}
 use Rattle.shift_and_scan.proofs.scan_segment.Goals as goal
 

@@ -1,5 +1,5 @@
 -- The goals of `scan_text` that want a law of this crate.
-use Rattle.std.proofs.Common.{◌-◌, arith, rules}
+use Rattle.std.proofs.Common.{arith, rules}
 use Rattle.shift_and_loop.proofs.LoopLaws.{begun}
 use Rattle.shift_and_scan.proofs.SegmentLaws.{over, probe_room, probes_on}
 use Rattle.shift_and_scan.proofs.scan_text.Goals as goal

@@ -1,5 +1,4 @@
 -- The goals of `all_even` that want a law of this crate.
-use Prim.Native.Nat.{◌-◌}
 use Rattle.wide_prefilter.proofs.Ways.{even-begun, even-next, even-over}
 use Rattle.wide_prefilter.proofs.all_even.Goals as goal
 

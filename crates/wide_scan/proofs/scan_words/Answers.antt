@@ -1,5 +1,4 @@
 -- The goals of `scan_words` that want a law of this crate.
-use Prim.Native.Nat.{◌-◌}
 use Rattle.wide_scan.proofs.Runs.{begun, ended, over, passed}
 use Rattle.wide_scan.proofs.scan_words.Goals as goal
 

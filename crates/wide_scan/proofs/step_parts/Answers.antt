@@ -1,5 +1,4 @@
 -- The goals of `step_parts` that want a law of this crate.
-use Prim.Native.Nat.{◌-◌}
 use borrow.Author.Rules.{rules}
 use Rattle.wide_scan.proofs.Parts.{parting, part-fits, part_room, part-next, parted}
 use Rattle.wide_scan.proofs.step_parts.Goals as goal

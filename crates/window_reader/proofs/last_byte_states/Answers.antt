@@ -1,5 +1,4 @@
 -- The goals of `last_byte_states` that want a law of this crate.
-use Prim.Native.Nat.{◌-◌}
 use Rattle.window_reader.proofs.WindowLaws.{firsts-begun, firsts-on, firsts-over}
 use Rattle.window_reader.proofs.last_byte_states.Goals as goal
 

@@ -1,10 +1,7 @@
 -- What the loop of `held.top_up` keeps, and what falls.
-use mathlib.Core.Path.{◌≡◌}
 use Rattle.piece_decoder.proofs.HeldLaws.{Topping}
 use Rattle.model.specs.References.{form_limit}
-use lib.ListN.{length}
 use Prim.Native.Nat.{◌-◌}
-use borrow.Author.Rules.{rules}
 use Rattle.piece_decoder.proofs.held.top_up.Given as goal
 
 abbrev pub invariant-loop-n : goal.invariant-loop-n
