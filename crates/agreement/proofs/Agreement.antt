@@ -108,7 +108,7 @@ module _ (flag : ℕ) (rule codes sets : List ℕ) (bytes : Bytes rule) (code-by
       record {
         answers = answers s₀ o s opens ok;
         reports = reports s₀ o s opens ok;
-        an_end_lem = Decided.ends_are ps;
+        an_end = Decided.ends_are ps;
         ends-rise = Decided.ends-rise ps;
         raws_rise = raws s₀ o s opens ok;
         raw_cuts = λ plan e. raw_cut form_limit plan e;

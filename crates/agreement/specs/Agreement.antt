@@ -99,7 +99,7 @@ pub record Agreement (flag : ℕ) (rule codes sets s : List ℕ) (ps : List Posi
   -- "the scan reports exactly the ends .. of occurrences in the decoded plan", once each, rising, each "with the raw count just past the byte or the whole reference that
   -- gave it"
   pub reports : (cs : List Made) → HandedOn s cs → Finished cs → reported_by cs ≡ placed (place_in 0 (raw_places form_limit (taken_by cs))) (ends ps (plan_of cs))
-  pub an_end_lem : (text : List ℕ) (e : ℕ) → Memᴰ e (ends ps text) ↔ EndsAt ps text e
+  pub an_end : (text : List ℕ) (e : ℕ) → Memᴰ e (ends ps text) ↔ EndsAt ps text e
   pub ends-rise : (text : List ℕ) → RisingFrom 0 (ends ps text)
   -- raw counts rise weakly, and lie within the bytes taken, finished or not
   pub raws_rise : (cs : List Made) → HandedOn s cs → WeaklyRising 0 (length (taken_by cs)) (raws_of (reported_by cs))

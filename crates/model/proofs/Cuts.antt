@@ -1,6 +1,6 @@
 -- What a piece lets out and what of it is held, byte by byte and reference by reference, for every length limit of a form: what a feed meets at its next
 -- byte with nothing held, and what held bytes become when a piece follows. What is let out is said of tokens (`out-..`), and each law of the text
--- (`letOut-..`) is one reading of such a law. (The two laws over any cut are `held_cut` and `tokens_cut` of `Decoding`.) Assumes nothing.
+-- (`let_out_..`) is one reading of such a law. (The two laws over any cut are `held_cut` and `tokens_cut` of `Decoding`.) Assumes nothing.
 use mathlib.Core.Path.{◌≡◌, refl, sym, ap, subst, ◌∙◌}
 use mathlib.Core.Bool.{Bool, true, false}
 use mathlib.Core.List.{List, [], ◌∷◌, ◌++◌, append-nil}

@@ -40,7 +40,7 @@ least_from f i (suc n) other = elim (f i) [ true ↦ i | false ↦ least_from f 
 abbrev pub shift : List Position → (window : List ℕ) → ℕ
 shift ps window = least_from (λ j. is_beginning ps (drop j window)) 1 (shortest ps - 1) (shortest ps)
 
--- The same sentence as a statement (`Shift-is` of proofs/).
+-- The same sentence as a statement (`shift_is` of proofs/).
 pub record ShiftIs (ps : List Position) (window : List ℕ) (j : ℕ) : Type 0 where
   pub least : 1 ≤ j
   pub most : j ≤ shortest ps

@@ -33,7 +33,7 @@ goes_on piece i e v =
     let n : length bytes ≡ e - i = length-take-le (e - i) (drop i piece) (omega (arith, length-drop i piece)) in
     record {
       after = a;
-      hands_on = record { lets_out_lem = v.lets_out_lem; holds = v.holds; takes = omega (arith, taken-bytes bytes); fits = f };
+      hands_on = record { lets_out = v.lets_out; holds = v.holds; takes = omega (arith, taken-bytes bytes); fits = f };
     }
 
 -- ---- `decode_chunk`
@@ -71,11 +71,11 @@ module _ (piece : List ℕ) (i : ℕ) (h : i < length piece) (room : List ℕ) (
       let o : List ℕ → List Token = out_tokens form_limit in
       let t : List ℕ → List ℕ = held_tail form_limit in
       record {
-        lets_out_lem =
+        lets_out =
             ap o (sym part-rest)
             ∙ tokens_cut form_limit part w
             ∙ ap (λ (l : List ℕ). o part ++ o (l ++ w)) y.hands_on.holds
-            ∙ ap (λ (l : List Token). l ++ o (t q ++ w)) y.hands_on.lets_out_lem
+            ∙ ap (λ (l : List Token). l ++ o (t q ++ w)) y.hands_on.lets_out
             ∙ append_assoc ts (o q) (o (t q ++ w))
             ∙ ap (λ (l : List Token). ts ++ l) (sym (tokens_cut form_limit q w) ∙ ap o still);
         holds =

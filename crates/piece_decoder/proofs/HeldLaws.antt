@@ -99,13 +99,13 @@ longer (c ∷ xs) ys n k e q = go (dec_le k (length (c ∷ xs)))
 -- what can grow is held whole, lets nothing out, and is short of a form
 record Grows (xs : List ℕ) : Type 0 where
   holds : held_tail form_limit xs ≡ xs
-  lets_out_lem : out_tokens form_limit xs ≡ []
+  lets_out : out_tokens form_limit xs ≡ []
   short : length xs < form_limit
 
 grows_whole : (xs : List ℕ) → can_grow form_limit xs ≡ true → Grows xs
-grows_whole [] q = record { holds = refl; lets_out_lem = refl; short = omega arith }
+grows_whole [] q = record { holds = refl; lets_out = refl; short = omega arith }
 grows_whole (c ∷ xs) q =
-    record { holds = held_open form_limit c xs q; lets_out_lem = out_open form_limit c xs q; short = growing_length form_limit (c ∷ xs) (T-to (sym q) tt) }
+    record { holds = held_open form_limit c xs q; lets_out = out_open form_limit c xs q; short = growing_length form_limit (c ∷ xs) (T-to (sym q) tt) }
 
 module _ (h : Held) (piece : List ℕ) (fine : HeldFine h) (j : Held) (x : TopUpIs h piece j) (r : Reference) (y : ReadIs (held_of j) r) where
   abbrev whole : List ℕ
@@ -135,7 +135,7 @@ module _ (h : Held) (piece : List ℕ) (fine : HeldFine h) (j : Held) (x : TopUp
         record {
           joins = x;
           is = record {
-            lets_out_lem =
+            lets_out =
                 out_reference form_limit whole code k told
                 ∙ ap (λ (l : List ℕ). record { takes = k; gives = utf8 code } ∷ out_tokens form_limit l) after
                 ∙ ap (λ (n : ℕ). record { takes = n; gives = utf8 code } ∷ out_tokens form_limit (drop (k - h.len) piece)) z;
@@ -153,7 +153,7 @@ module _ (h : Held) (piece : List ℕ) (fine : HeldFine h) (j : Held) (x : TopUp
       record {
         joins = x;
         is = record {
-          lets_out_lem = out_passed form_limit (held_of h) piece fine.tail q.1 q.0;
+          lets_out = out_passed form_limit (held_of h) piece fine.tail q.1 q.0;
           holds = held-passed form_limit (held_of h) piece fine.tail q.1;
         };
       }
@@ -166,7 +166,7 @@ module _ (h : Held) (piece : List ℕ) (fine : HeldFine h) (j : Held) (x : TopUp
       record {
         joins = x;
         is = record {
-          lets_out_lem = g.lets_out_lem;
+          lets_out = g.lets_out;
           holds = g.holds;
           is = a;
           fine = record { few = omega (arith, x.size, ap length a); tail = rw a g.holds };

@@ -28,14 +28,14 @@ use Rattle.piece_decoder.specs.Chunks.{HandsOn, TokenIs, TokensDecodedIs}
 -- ---- tokens handed on: none, and some after others
 
 pub hands_none : (piece : List ℕ) (i : ℕ) → i ≤ length piece → HandsOn piece i [] i
-hands_none piece i h = record { lets_out_lem = refl; holds = refl; takes = add-zero i; fits = h }
+hands_none piece i h = record { lets_out = refl; holds = refl; takes = add-zero i; fits = h }
 
 pub hands_join : (piece : List ℕ) (i j k : ℕ) (ts us : List Token) → HandsOn piece i ts j → HandsOn piece j us k → HandsOn piece i (ts ++ us) k
 hands_join piece i j k ts us x y =
     let a = x.takes in
     let b = y.takes in
     record {
-      lets_out_lem = x.lets_out_lem ∙ ap (λ (l : List Token). ts ++ l) y.lets_out_lem ∙ sym (append_assoc ts us (out_tokens form_limit (drop k piece)));
+      lets_out = x.lets_out ∙ ap (λ (l : List Token). ts ++ l) y.lets_out ∙ sym (append_assoc ts us (out_tokens form_limit (drop k piece)));
       holds = x.holds ∙ y.holds;
       takes = omega (arith, taken-append ts us);
       fits = y.fits;
@@ -71,7 +71,7 @@ module _ (raw out : List ℕ) (i at : ℕ) (h : i < length raw) (wide : at + len
         tokens = byte_tokens (take n d);
         hands_on =
             record {
-              lets_out_lem =
+              lets_out =
                   ap (out_tokens form_limit) (sym (take-append-drop n d))
                   ∙ out_run form_limit (take n d) (drop n d) u.plain
                   ∙ ap (λ (l : List ℕ). byte_tokens (take n d) ++ out_tokens form_limit l) (drop-drop n i raw);
@@ -134,7 +134,7 @@ module _ (raw out : List ℕ) (i at : ℕ) (h : i < length raw) (wide : at + len
             tokens = record { takes = k; gives = utf8 code } ∷ [];
             hands_on =
                 record {
-                  lets_out_lem =
+                  lets_out =
                       out_reference form_limit (drop i raw) code k q
                       ∙ ap (λ (l : List ℕ). record { takes = k; gives = utf8 code } ∷ out_tokens form_limit l) (drop-drop k i raw);
                   holds = held_reference form_limit (drop i raw) code k q ∙ ap (held_tail form_limit) (drop-drop k i raw);
@@ -163,7 +163,7 @@ module _ (raw out : List ℕ) (i at : ℕ) (h : i < length raw) (wide : at + len
           tokens = byte_token (get_or raw i 0) ∷ [];
           hands_on =
               record {
-                lets_out_lem =
+                lets_out =
                     ap (out_tokens form_limit) c
                     ∙ out_none form_limit (get_or raw i 0) (drop (suc i) raw) gr rf
                     ∙ ap (λ (j : ℕ). byte_token (get_or raw i 0) ∷ out_tokens form_limit (drop j raw)) (sym (add-one i));
@@ -217,7 +217,7 @@ module _ (raw out₀ : List ℕ) where
 
   -- nothing more is let out, so the tokens so far are all
   pub all-tokens : {out : List ℕ} {i at : ℕ} (g : Writing raw out₀ out i at) → held_tail form_limit (drop i raw) ≡ drop i raw → out_tokens form_limit raw ≡ g.done
-  all-tokens {out} {i} {at} g a = g.hands_on.lets_out_lem ∙ ap (λ (l : List Token). g.done ++ l) (out_held form_limit (drop i raw) a) ∙ append-nil g.done
+  all-tokens {out} {i} {at} g a = g.hands_on.lets_out ∙ ap (λ (l : List Token). g.done ++ l) (out_held form_limit (drop i raw) a) ∙ append-nil g.done
 
   pub all-written : {out : List ℕ} {i at : ℕ} → Writing raw out₀ out i at → held_tail form_limit (drop i raw) ≡ drop i raw
       → TokensDecodedIs raw out₀ (record { read = i; written = at }) out

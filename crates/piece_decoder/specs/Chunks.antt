@@ -11,7 +11,7 @@ use Rattle.piece_decoder.specs.declared.Chunk.{Chunk}
 -- From place i on the tokens `ts` are handed on, and reading goes on at `read`: the chunks' tokens in order are those that the piece lets out. Text is
 -- one reading of them (`joined`), raw places another (`taken`).
 pub record HandsOn (piece : List ℕ) (i : ℕ) (ts : List Token) (read : ℕ) : Type 0 where
-  pub lets_out_lem : out_tokens form_limit (drop i piece) ≡ ts ++ out_tokens form_limit (drop read piece)
+  pub lets_out : out_tokens form_limit (drop i piece) ≡ ts ++ out_tokens form_limit (drop read piece)
   pub holds : held_tail form_limit (drop i piece) ≡ held_tail form_limit (drop read piece)
   pub takes : i + taken ts ≡ read
   pub fits : read ≤ length piece

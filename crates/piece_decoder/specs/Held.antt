@@ -32,7 +32,7 @@ pub record TopUpIs (h : Held) (piece : List ℕ) (r : Held) : Type 0 where
 
 -- A reference was completed with `taken` bytes of the piece; reading goes on after them.
 pub record CompletedIs (h piece : List ℕ) (code taken : ℕ) : Type 0 where
-  pub lets_out_lem : out_tokens form_limit (h ++ piece) ≡ record { takes = length h + taken; gives = utf8 code } ∷ out_tokens form_limit (drop taken piece)
+  pub lets_out : out_tokens form_limit (h ++ piece) ≡ record { takes = length h + taken; gives = utf8 code } ∷ out_tokens form_limit (drop taken piece)
   pub holds : held_tail form_limit (h ++ piece) ≡ held_tail form_limit (drop taken piece)
   pub fits : taken ≤ length piece
   pub few : length (utf8 code) ≤ length h + taken
@@ -41,12 +41,12 @@ pub record CompletedIs (h piece : List ℕ) (code taken : ℕ) : Type 0 where
 
 -- The held bytes go out as they came; reading goes on at the piece's first byte.
 pub record LiteralIs (h piece : List ℕ) : Type 0 where
-  pub lets_out_lem : out_tokens form_limit (h ++ piece) ≡ byte_tokens h ++ out_tokens form_limit piece
+  pub lets_out : out_tokens form_limit (h ++ piece) ≡ byte_tokens h ++ out_tokens form_limit piece
   pub holds : held_tail form_limit (h ++ piece) ≡ held_tail form_limit piece
 
 -- All can still grow and is held now, in `joined`.
 pub record PendingIs (h piece : List ℕ) (joined : Held) : Type 0 where
-  pub lets_out_lem : out_tokens form_limit (h ++ piece) ≡ []
+  pub lets_out : out_tokens form_limit (h ++ piece) ≡ []
   pub holds : held_tail form_limit (h ++ piece) ≡ h ++ piece
   pub is : held_of joined ≡ h ++ piece
   pub fine : HeldFine joined

@@ -130,7 +130,7 @@ module _ {S : Type 0} (R : Runner S) (g : Standing S) (h : Held) (piece ends : L
         let n = h_long h piece x cr in
         let t : Token = record { takes = h.len + taken; gives = utf8 code } in
         let o : tokens_of (held_of h ++ piece) ≡ (t ∷ []) ++ tokens_of (drop taken piece) =
-        c.lets_out_lem ∙ ap (λ (i : ℕ). record { takes = i + taken; gives = utf8 code } ∷ out_tokens form_limit (drop taken piece)) n in
+        c.lets_out ∙ ap (λ (i : ℕ). record { takes = i + taken; gives = utf8 code } ∷ out_tokens form_limit (drop taken piece)) n in
         let q = w.few in
         record {
           steps =
@@ -160,7 +160,7 @@ module _ {S : Type 0} (R : Runner S) (g : Standing S) (h : Held) (piece ends : L
     unfolding tokens_of tail_of
     fed_literal s ends₁ a r k ends' w =
         let c = passed in
-        let o : tokens_of (held_of h ++ piece) ≡ byte_tokens (held_of h) ++ tokens_of piece = c.lets_out_lem in
+        let o : tokens_of (held_of h ++ piece) ≡ byte_tokens (held_of h) ++ tokens_of piece = c.lets_out in
         let q = w.few in
         let j : joined (byte_tokens (held_of h) ++ tokens_of piece) ≡ held_of h ++ joined (tokens_of piece) = joined-run (held_of h) (tokens_of piece) in
         record {
@@ -185,7 +185,7 @@ module _ {S : Type 0} (R : Runner S) (g : Standing S) (h : Held) (piece ends : L
     unfolding tokens_of tail_of
     fed_pending =
         let c = growing in
-        let o : tokens_of (held_of h ++ piece) ≡ [] = c.lets_out_lem in
+        let o : tokens_of (held_of h ++ piece) ≡ [] = c.lets_out in
         let j = cr.joins in
         let z : x.joined.len ≡ length (held_of h ++ piece) = j.size ∙ ap length c.is in
         record {

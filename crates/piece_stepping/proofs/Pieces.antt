@@ -36,7 +36,7 @@ module _ {S : Type 0} (R : Runner S) (g : Standing S) (piece : List ℕ) (i : �
       record {
         tokens = ts;
         steps = y.steps ts (record { text-is = ap (λ (n : ℕ). take n room') z ∙ x.text; marked = x.marked }) (omega arith);
-        lets_out_lem = o.lets_out_lem;
+        lets_out = o.lets_out;
         holds = o.holds;
         fits = o.fits;
         takes = t;
@@ -55,7 +55,7 @@ module _ {S : Type 0} (R : Runner S) (g : Standing S) (piece : List ℕ) (i : �
       record {
         tokens = byte_tokens bytes;
         steps = y;
-        lets_out_lem = o.lets_out_lem;
+        lets_out = o.lets_out;
         holds = o.holds;
         fits = o.fits;
         takes = o.takes;
@@ -111,7 +111,7 @@ module _ {S : Type 0} (g : Standing S) (piece : List ℕ) (i m : ℕ) (space : S
 pub record Resting {S : Type 0} (R : Runner S) (g₀ : Standing S) (piece : List ℕ) (from : ℕ) (ends₀ : List ℕ) (g : Standing S) (i : ℕ) (ends : List ℕ) : Type 0 where
   pub done : List Token
   pub steps : SteppedBy R g₀ done ends₀ g ends
-  pub lets_out_lem : tokens_of (drop from piece) ≡ done ++ tokens_of (drop i piece)
+  pub lets_out : tokens_of (drop from piece) ≡ done ++ tokens_of (drop i piece)
   pub holds : tail_of (drop from piece) ≡ tail_of (drop i piece)
   pub within : i ≤ length piece
   pub few : length (joined done) + from ≤ i
@@ -130,7 +130,7 @@ held-silent xs e = out_held form_limit xs e
 module _ {S : Type 0} (R : Runner S) (g₀ : Standing S) (piece : List ℕ) (from : ℕ) (ends₀ : List ℕ) where
   pub resting : from ≤ length piece → Space g₀ (length piece - from) (length ends₀) → Resting R g₀ piece from ends₀ g₀ from ends₀
   resting w s =
-      record { done = []; steps = stepped-none R g₀ ends₀; lets_out_lem = refl; holds = refl; within = w; few = omega arith; long = refl; space = s }
+      record { done = []; steps = stepped-none R g₀ ends₀; lets_out = refl; holds = refl; within = w; few = omega arith; long = refl; space = s }
 
   module _ {g : Standing S} {i : ℕ} {ends : List ℕ} (w : Resting R g₀ piece from ends₀ g i ends) {r : Standing S} {read : ℕ} {held : Bool} {ends' : List ℕ}
       (x : PartStepped R g piece i ends r read held ends') where
@@ -138,7 +138,7 @@ module _ {S : Type 0} (R : Runner S) (g₀ : Standing S) (piece : List ℕ) (fro
     both = stepped-append R g₀ w.done x.tokens ends₀ g ends r ends' w.steps x.steps
 
     out_both : tokens_of (drop from piece) ≡ (w.done ++ x.tokens) ++ tokens_of (drop read piece)
-    out_both = w.lets_out_lem ∙ ap (λ (l : List Token). w.done ++ l) x.lets_out_lem ∙ sym (append_assoc w.done x.tokens (tokens_of (drop read piece)))
+    out_both = w.lets_out ∙ ap (λ (l : List Token). w.done ++ l) x.lets_out ∙ sym (append_assoc w.done x.tokens (tokens_of (drop read piece)))
 
     few-both : length (joined (w.done ++ x.tokens)) + from ≤ read
     few-both =
@@ -166,7 +166,7 @@ module _ {S : Type 0} (R : Runner S) (g₀ : Standing S) (piece : List ℕ) (fro
         record {
           done = w.done ++ x.tokens;
           steps = both;
-          lets_out_lem = out_both;
+          lets_out = out_both;
           holds = w.holds ∙ x.holds;
           within = f;
           few = few-both;
@@ -179,7 +179,7 @@ module _ {S : Type 0} (R : Runner S) (g₀ : Standing S) (piece : List ℕ) (fro
     rest_over h =
         let n : drop i piece ≡ [] = drop_of_length-le piece h in
         let o : tokens_of (drop from piece) ≡ w.done =
-        w.lets_out_lem ∙ ap (λ (l : List ℕ). w.done ++ tokens_of l) n ∙ ap (λ (l : List Token). w.done ++ l) (held-silent [] tail_nil) ∙ append-nil w.done in
+        w.lets_out ∙ ap (λ (l : List ℕ). w.done ++ tokens_of l) n ∙ ap (λ (l : List Token). w.done ++ l) (held-silent [] tail_nil) ∙ append-nil w.done in
         let f = w.few in
         record {
           steps = subst (λ (l : List Token). SteppedBy R g₀ l ends₀ g ends) (sym o) w.steps;

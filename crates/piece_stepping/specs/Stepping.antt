@@ -103,7 +103,7 @@ pub record CodeFits (code k : ℕ) : Type 0 where
 pub record PartStepped {S : Type 0} (R : Runner S) (g : Standing S) (piece : List ℕ) (i : ℕ) (ends : List ℕ) (r : Standing S) (read : ℕ) (held : Bool) (ends' : List ℕ) : Type 0 where
   pub tokens : List Token
   pub steps : SteppedBy R g tokens ends r ends'
-  pub lets_out_lem : tokens_of (drop i piece) ≡ tokens ++ tokens_of (drop read piece)
+  pub lets_out : tokens_of (drop i piece) ≡ tokens ++ tokens_of (drop read piece)
   pub holds : tail_of (drop i piece) ≡ tail_of (drop read piece)
   pub fits : read ≤ length piece
   pub takes : i + taken tokens ≡ read

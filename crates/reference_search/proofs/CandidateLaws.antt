@@ -98,11 +98,11 @@ module _ (c d : ℕ) (cs : List ℕ) where
 
 module _ (text : List ℕ) where
   record Out (i n : ℕ) : Type 0 where
-    lets_out_lem : out_tokens form_limit (drop i text) ≡ byte_tokens (take n (drop i text)) ++ out_tokens form_limit (drop (i + n) text)
+    lets_out : out_tokens form_limit (drop i text) ≡ byte_tokens (take n (drop i text)) ++ out_tokens form_limit (drop (i + n) text)
     holds : held_tail form_limit (drop i text) ≡ held_tail form_limit (drop (i + n) text)
 
   outs : (n i : ℕ) → i + n < length text → ((k : ℕ) → i ≤ k → k < i + n → candidate_at text k ≡ false) → Out i n
-  outs zero i h f = record { lets_out_lem = rw add-zero; holds = rw add-zero }
+  outs zero i h f = record { lets_out = rw add-zero; holds = rw add-zero }
   outs (suc n) i h f =
       let c = get_or text i 0 in
       let d = get_or text (suc i) 0 in
@@ -114,9 +114,9 @@ module _ (text : List ℕ) where
       let r = outs n (suc i) (omega arith) (λ k a b. f k (omega arith) (omega arith)) in
       let s : suc i + n ≡ i + suc n = omega arith in
       record {
-        lets_out_lem =
+        lets_out =
             ap (out_tokens form_limit) w ∙ o.0 ∙ ap (λ (l : List ℕ). byte_token c ∷ out_tokens form_limit l) (sym v)
-            ∙ ap (λ (l : List Token). byte_token c ∷ l) r.lets_out_lem
+            ∙ ap (λ (l : List Token). byte_token c ∷ l) r.lets_out
             ∙ ap (λ (k : ℕ). byte_token c ∷ (byte_tokens (take n (drop (suc i) text)) ++ out_tokens form_limit (drop k text))) s
             ∙ ap (λ (l : List ℕ). byte_tokens (take (suc n) l) ++ out_tokens form_limit (drop (i + suc n) text)) (sym u);
         holds = ap (held_tail form_limit) w ∙ o.1 ∙ ap (held_tail form_limit) (sym v) ∙ r.holds ∙ ap (λ (k : ℕ). held_tail form_limit (drop k text)) s;
@@ -132,7 +132,7 @@ module _ (text : List ℕ) where
         record {
           fore = a;
           fits = omega arith;
-          lets_out_lem = o.lets_out_lem ∙ ap (λ (k : ℕ). byte_tokens (take (e - i) (drop i text)) ++ out_tokens form_limit (drop k text)) k;
+          lets_out = o.lets_out ∙ ap (λ (k : ℕ). byte_tokens (take (e - i) (drop i text)) ++ out_tokens form_limit (drop k text)) k;
           holds = o.holds ∙ ap (λ (k : ℕ). held_tail form_limit (drop k text)) k;
         }
 
@@ -165,8 +165,8 @@ module _ (text : List ℕ) where
           record {
             fore = omega arith;
             fits = omega arith;
-            lets_out_lem =
-                o.lets_out_lem
+            lets_out =
+                o.lets_out
                 ∙ ap (λ (l : List ℕ). byte_tokens (take (e - i) (drop i text)) ++ out_tokens form_limit l) one
                 ∙ ap (λ (l : List Token). byte_tokens (take (e - i) (drop i text)) ++ l) (out_plain form_limit (get_or text e 0) [] t ∙ sym (ap byte_tokens one))
                 ∙ sym (byte_tokens-append (take (e - i) (drop i text)) (drop e text))

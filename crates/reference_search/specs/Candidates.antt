@@ -14,5 +14,5 @@ candidate_at text k = eqb (get_or text k 0) 38 && may_follow_amp (get_or text (k
 pub record LiteralEnd (text : List ℕ) (i r : ℕ) : Type 0 where
   pub fore : i ≤ r
   pub fits : r ≤ length text
-  pub lets_out_lem : out_tokens form_limit (drop i text) ≡ byte_tokens (take (r - i) (drop i text)) ++ out_tokens form_limit (drop r text)
+  pub lets_out : out_tokens form_limit (drop i text) ≡ byte_tokens (take (r - i) (drop i text)) ++ out_tokens form_limit (drop r text)
   pub holds : held_tail form_limit (drop i text) ≡ held_tail form_limit (drop r text)

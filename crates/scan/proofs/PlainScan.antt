@@ -12,7 +12,7 @@ use lib.ListN.{length, get_or, length-append}
 use Rattle.model.specs.Occurrence.{Position, cons_if, all, shortest}
 use Rattle.model.specs.RefusalNumbers.{impossible}
 use Rattle.model.specs.RuleText.{fold_flag, position_limit, is_byte, Element, positions}
-use Rattle.model.specs.NumberedAnswers.{text_limit, Parsed, refused as Turned-down, accepted, positions_by}
+use Rattle.model.specs.NumberedAnswers.{text_limit, Parsed, refused as turned_down, accepted, positions_by}
 use Rattle.model.specs.Codes.{codes_of, fitting, smudged, parse_with}
 use Rattle.model.specs.References.{form_limit, held_most, Token, byte_tokens, joined, held_tail, without_tail}
 use Rattle.model.specs.RawPlaces.{Entry, entries_by}
@@ -314,7 +314,7 @@ module _ (flag : ℕ) (rule codes sets s : List ℕ) (r : Opened) (s' : List ℕ
   by_length false es e a l z = absurd (omega (arith, sym (ap (λ (o : Opened). o.number) a) ∙ z))
 
   by_rule : (x : Parsed) → parse_with (fold_flag flag) rule codes sets ≡ x → r ≡ answer_by flag (length s) x → s' ≡ left_by flag codes sets s x → r.number ≡ 0 → OpenedWith flag rule codes sets s'
-  by_rule (Turned-down n p) e a l z =
+  by_rule (turned_down n p) e a l z =
       let q : n ≡ 0 = sym (ap (λ (o : Opened). o.number) a) ∙ z in
       elim (coded_refusal (fold_flag flag) rule codes sets n p e) [ inl (inl r) ↦ let l = r.0 in absurd (omega arith) | inl (inr r) ↦ absurd (omega arith) | inr r ↦ let l = r.0 in absurd (omega arith) ]
   by_rule (accepted es) e a l z = by_length (eqb (length s) scan_length) es e a l z

@@ -20,7 +20,7 @@ use Rattle.shift_and_step.specs.declared.Masks.{Masks}
 use Rattle.shift_and_step.specs.Stepping.{automaton_of, TableFits}
 use Rattle.shift_and_wide.specs.declared.Wide.{Wide}
 use Rattle.shift_and_wide.specs.Wides.{low}
-use Rattle.piece_stepping.specs.Stepping.{tokens_of, tail_of, Holds, Standing, Space, entries_from}
+use Rattle.piece_stepping.specs.Stepping.{tokens_of, tail_of, Holds, Standing, Space}
 use Rattle.piece_stepping.proofs.Steps.{space_less}
 use Rattle.wide_pairs.specs.declared.WideProgress.{WideProgress}
 use Rattle.wide_piece.specs.declared.WideFed.{WideFed}

@@ -9,7 +9,7 @@ use lib.ListN.{length, take, length-reverse}
 use borrow.Author.Tests.{eq-eqb, ne_eqb, lt-ltb, le-ltb}
 use Rattle.model.specs.Occurrence.{Position, all, shortest, starts}
 use Rattle.model.specs.RefusalNumbers.{too_short, too_much}
-use Rattle.model.specs.RuleText.{fold_flag, position_limit, is_byte, positions}
+use Rattle.model.specs.RuleText.{fold_flag, position_limit, is_byte}
 use Rattle.model.specs.NumberedAnswers.{text_limit, rule_positions, whole_refusal, overwrite}
 use Rattle.model.specs.Codes.{codes_of, smudged, codes_wrong}
 use Rattle.model.specs.WindowSearch.{windows}

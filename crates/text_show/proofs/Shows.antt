@@ -9,7 +9,7 @@ use lib.ListN.{length, take, drop}
 use borrow.Author.Tests.{lt-ltb, le-ltb}
 use Rattle.model.specs.Occurrence.{Position, stretch, all}
 use Rattle.model.specs.RuleText.{fold_flag, is_byte, positions}
-use Rattle.model.specs.NumberedAnswers.{text_limit, Parsed, accepted, positions_by, rule_positions}
+use Rattle.model.specs.NumberedAnswers.{text_limit, Parsed, positions_by, rule_positions}
 use Rattle.model.specs.WindowSearch.{empty_part, part_from, part_by, shown}
 use Rattle.model.proofs.Windows.{take-drop}
 use Rattle.model.proofs.Earliest.{part-empty}

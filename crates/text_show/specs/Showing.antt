@@ -22,9 +22,9 @@ shown_bytes flag rule text start = stretch text (shown flag rule text start).fro
 
 -- "it hands back that part of the caller's text": its bytes, and the place in memory, so many bytes after that of the text. A place is a block of memory and an
 -- offset in it.
-pub record ShowsPart (flag : ℕ) (rule text : List ℕ) (lies : ℕ × ℕ) (start : ℕ) (part : List ℕ) (Part-lies : ℕ × ℕ) : Type 0 where
+pub record ShowsPart (flag : ℕ) (rule text : List ℕ) (lies : ℕ × ℕ) (start : ℕ) (part : List ℕ) (part_lies : ℕ × ℕ) : Type 0 where
   pub bytes : part ≡ shown_bytes flag rule text start
-  pub place : Part-lies ≡ (lies.0, (shown flag rule text start).from + lies.1)
+  pub place : part_lies ≡ (lies.0, (shown flag rule text start).from + lies.1)
 
 -- ---- its parts
 

@@ -10,8 +10,8 @@ use native.Mathlib.Omega.{arith}
 use lib.ListN.{length, set, length-set}
 use lib.Seq.{sets, sets-eq}
 use borrow.Author.Tests.{not-false}
-use Rattle.model.specs.Occurrence.{Position, shortest, cons_if, is_start, starts}
-use Rattle.model.specs.WindowSearch.{window_at, shift, windows_from, windows}
+use Rattle.model.specs.Occurrence.{Position, cons_if, is_start, starts}
+use Rattle.model.specs.WindowSearch.{window_at, shift, windows_from}
 use Rattle.model.proofs.Windows.{windows-next, windows_stop}
 use Rattle.shift_and.specs.Automaton.{Automaton}
 use Rattle.window_reader.specs.declared.WindowResult.{WindowResult}

@@ -1,5 +1,4 @@
 -- The goals of `reads_low` that want a law of this crate.
-use Prim.Native.Nat.{◌-◌}
 use Rattle.whole_match.proofs.Readings.{reading-begun, reading-over, reading_died, reading-turn}
 use Rattle.whole_match.proofs.reads_low.Goals as goal
 

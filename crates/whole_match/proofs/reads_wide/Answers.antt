@@ -1,5 +1,4 @@
 -- The goals of `reads_wide` that want a law of this crate.
-use Prim.Native.Nat.{◌-◌}
 use Rattle.wide_window_reader.proofs.Numbers.{none_left, some_left}
 use Rattle.whole_match.proofs.Readings.{reading-begun, reading-over, reading_died, reading-turn}
 use Rattle.whole_match.proofs.reads_wide.Goals as goal

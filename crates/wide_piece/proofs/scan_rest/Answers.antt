@@ -1,6 +1,5 @@
 -- The goals of `scan_rest` that want a law of this crate.
 use native.Mathlib.Omega.{arith}
-use Prim.Native.Nat.{◌-◌}
 use Rattle.piece_stepping.proofs.Pieces.{resting, rest_open, rest-turn, rest_over}
 use Rattle.wide_piece.proofs.scan_rest.Goals as goal
 

@@ -1,5 +1,4 @@
 -- The goals of `last_byte_states` that want a law of this crate.
-use Prim.Native.Nat.{◌-◌}
 use Rattle.wide_window_reader.proofs.FirstLaws.{wide-firsts-begun, wide-firsts-on, wide-firsts-over}
 use Rattle.wide_window_reader.proofs.last_byte_states.Goals as goal
 

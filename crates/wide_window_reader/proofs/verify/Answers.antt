@@ -1,5 +1,4 @@
 -- The goals of `verify` that want a law of this crate.
-use Prim.Native.Nat.{◌-◌}
 use Rattle.window_reader.proofs.VerifyLaws.{verify_begun, verify_died, verify_ended, verify_over}
 use Rattle.wide_window_reader.proofs.Numbers.{none_left, some_left, still_verifying}
 use Rattle.wide_window_reader.proofs.verify.Goals as goal

@@ -1,6 +1,5 @@
 -- The goals of `write_back` that want a law of this crate.
 use Rattle.window_reader.proofs.BackLaws.{write_begun, more-place, more_within, above, inside, more_less, wrote, write_passed, write_over}
-use borrow.Author.Rules.{rules}
 use Rattle.wide_window_reader.proofs.write_back.Goals as goal
 
 pub loop-p-init : goal.loop-p-init

@@ -1,6 +1,5 @@
 -- The goals of `verify_windows` that want a law of this crate.
 use Rattle.std.proofs.Common.{arith, refl}
-use Prim.Native.Nat.{◌-◌}
 use Rattle.window_search.proofs.Searches.{begun, start-short, start_less, started, empty-short, empty_less, passed, has-entry, halted}
 use Rattle.wide_window_search.proofs.WideTries.{wide-rule-some}
 use Rattle.wide_window_search.proofs.verify_windows.Goals as goal

@@ -1,5 +1,4 @@
 -- The goals of `count_windows` that want a law of this crate.
-use Prim.Native.Nat.{◌-◌}
 use Rattle.window_search.proofs.Searches.{try_begun, try_quick, try_turn, try_over}
 use Rattle.window_search.proofs.count_windows.Goals as goal
 

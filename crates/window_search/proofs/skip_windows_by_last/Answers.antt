@@ -1,5 +1,4 @@
 -- The goals of `skip_windows_by_last` that want a law of this crate.
-use Prim.Native.Nat.{◌-◌}
 use Rattle.window_search.proofs.Searches.{skip_begun, skip_unknown}
 use Rattle.window_search.proofs.skip_windows_by_last.Goals as goal
 
