@@ -47,13 +47,7 @@ pub fn jazhuppe_covers(rule: &[u8], fold: u32, name: &[u8]) -> Covered
 }
 
 // Opens a scan for a rule with codes.
-pub fn jazhuppe_open(
-    rule: &[u8],
-    fold: u32,
-    codes: &[u8],
-    sets: &[u8],
-    scan: &mut [u64],
-) -> Opened
+pub fn jazhuppe_open(rule: &[u8], fold: u32, codes: &[u8], sets: &[u8], scan: &mut [u64]) -> Opened
     ensures { OpenIs fold rule.now codes.now sets.now scan.old result scan.new }
 {
     scan_open::open(rule, fold, codes, sets, scan)

@@ -1,6 +1,8 @@
 // The lister program of document 01: a rule on the first line of its input, the raw plan after that newline.
 // `take` sorts the input into both, however long it is and in whatever pieces it comes; `list` prints what the
 // finder answers, through the calls that a C host has.
+#![tactic(auto)]
+
 ghost use Rattle.std.specs.Prelude.{◌≤◌};
 
 use answers::Answer;
@@ -165,10 +167,11 @@ fn list_ends(rule: &[u8], plan: &[u8]) {
 fn list_starts(rule: &[u8], decoded: &[u8]) {
     let mut starts = [0u32; PLAN_LIMIT];
     let a = jazhuppe::exports::jazhuppe_search(rule, 0, b"", b"", decoded, &mut starts);
+    let windows = a.windows;
     text(b"starts");
     reported(a, &starts);
     text(b"\n");
-    line(b"windows ", a.windows);
+    line(b"windows ", windows);
 }
 
 fn list_plan(rule: &[u8], plan: &[u8]) {
