@@ -77,6 +77,6 @@ bench: $(ARCHIVE) $(PROGRAM)
 	bench/run
 
 clean:
-	rm -rf build target
+	rm -rf build crates/*/out
 
 .PHONY: all run host-test test install uninstall bench clean
