@@ -1,58 +1,73 @@
-// What the calls answer a host, and the numbers of their refusals (document 01, "Numbered answers"). `model` has
+// What the calls answer a host, why a call is refused, and with which number (document 01, "Numbered answers"). `model` has
 // the same numbers, and the header for a host.
 #![tactic(auto)]
 
 ghost use Rattle.std.specs.Prelude.{◌≡◌};
-ghost use Rattle.answers.specs.Answers.{refusing, counting, refusing_rule, accepting_rule, refusing_text, written_text, refusing_name, judged_name};
+ghost use Rattle.answers.specs.Answers.{number_of, refused_at, refusing, counting, refusing_rule, accepting_rule, refusing_text, written_text, refusing_name, judged_name};
 
-// "rule of length 0"
-pub const RULE_EMPTY: u32 = 1;
+// Why a call is refused, each with its number.
+#[derive(Clone, Copy, Debug, PartialEq, Eq)]
+pub enum Refusal {
+    // "rule of length 0"
+    RuleEmpty = 1,
+    // "rule, a rewriter's finished text, or an imported pattern's rule text, over 1,023 bytes"
+    RuleLong = 2,
+    // "class unclosed, empty, with a reversed range, a bad `\` or misplaced `-`, or left with no byte"
+    ClassFault = 3,
+    // "gap not of the given form, a > b, or b = 0"
+    GapFault = 4,
+    // "`?`, `+`, `*` first, after a gap, or after another of them"
+    MarkFault = 5,
+    // "outside a class: bad or last `\`, or stray `]` or `}`"
+    ByteFault = 6,
+    // "it takes the positions past 255"
+    TooManyPositions = 7,
+    // "the empty string is admitted"
+    AdmitsEmpty = 8,
+    // "list or buffer too short"
+    TooShort = 9,
+    // "more than 4,294,967,295 bytes in the text, the name or the pattern, or in all the pieces"
+    TooMuch = 10,
+    // "impossible scan value"
+    Impossible = 11,
+    // "scan already finished"
+    AlreadyFinished = 12,
+    // "a LIKE backslash stands last or before another byte"
+    LikeFault = 14,
+    // "there are more than 8 codes, the sets are not 32 bytes for each code, a code is named twice, a set is empty or holds a
+    // code, or a position holds codes alone"
+    CodesFault = 15,
+    // "a rule's first or last element is a gap with a < b"
+    OuterGap = 16,
+    // "an offer's feed number is above 7 or that feed already has a piece waiting"
+    OfferFault = 18,
+}
 
-// "rule, a rewriter's finished text, or an imported pattern's rule text, over 1,023 bytes"
-pub const RULE_LONG: u32 = 2;
+impl Refusal {
+    // The number that a host is told.
+    pub fn number(self) -> u32
+        ensures { result ≡ number_of self }
+    {
+        self as u32
+    }
 
-// "class unclosed, empty, with a reversed range, a bad `\` or misplaced `-`, or left with no byte"
-pub const CLASS_FAULT: u32 = 3;
+    // The refusal at a place.
+    pub fn at(self, place: u32) -> Refused
+        ensures { result ≡ refused_at self place }
+    {
+        Refused {
+            refusal: self,
+            place,
+        }
+    }
+}
 
-// "gap not of the given form, a > b, or b = 0"
-pub const GAP_FAULT: u32 = 4;
-
-// "`?`, `+`, `*` first, after a gap, or after another of them"
-pub const MARK_FAULT: u32 = 5;
-
-// "outside a class: bad or last `\`, or stray `]` or `}`"
-pub const BYTE_FAULT: u32 = 6;
-
-// "it takes the positions past 255"
-pub const TOO_MANY_POSITIONS: u32 = 7;
-
-// "the empty string is admitted"
-pub const ADMITS_EMPTY: u32 = 8;
-
-// "list or buffer too short"
-pub const TOO_SHORT: u32 = 9;
-
-// "more than 4,294,967,295 bytes in the text, the name or the pattern, or in all the pieces"
-pub const TOO_MUCH: u32 = 10;
-
-// "impossible scan value"
-pub const IMPOSSIBLE: u32 = 11;
-
-// "scan already finished"
-pub const ALREADY_FINISHED: u32 = 12;
-
-// "a LIKE backslash stands last or before another byte"
-pub const LIKE_FAULT: u32 = 14;
-
-// "there are more than 8 codes, the sets are not 32 bytes for each code, a code is named twice, a set is empty or holds a
-// code, or a position holds codes alone"
-pub const CODES_FAULT: u32 = 15;
-
-// "a rule's first or last element is a gap with a < b"
-pub const OUTER_GAP: u32 = 16;
-
-// "an offer's feed number is above 7 or that feed already has a piece waiting"
-pub const OFFER_FAULT: u32 = 18;
+// The error of a call: why it is refused, and where.
+#[derive(Clone, Copy, Debug, PartialEq, Eq)]
+pub struct Refused {
+    pub refusal: Refusal,
+    pub place: u32,
+}
 
 // What a call on a scan or on a whole text answers. `windows` is a search's, and 0 in any other answer.
 #[repr(C)]
@@ -120,101 +135,116 @@ pub struct Span {
     pub to: usize,
 }
 
-// "Every refusal has zero counts beside its number and place".
-pub fn refused(number: u32, place: u32) -> Answer
-    ensures { result ≡ refusing number place }
-{
-    Answer {
-        number: number,
-        place: place,
-        count: 0,
-        windows: 0,
+// "place 0 where none is given"
+impl From<Refusal> for Refused {
+    ghost from_gives = { λ refusal refused. refused ≡ refused_at refusal 0 };
+
+    fn from(refusal: Refusal) -> Refused {
+        refusal.at(0)
     }
 }
 
-// A finished result.
-pub fn counted(count: u32, windows: u32) -> Answer
-    ensures { result ≡ counting count windows }
-{
-    Answer {
-        number: 0,
-        place: 0,
-        count: count,
-        windows: windows,
+// A refusal as each call's answer: "Every refusal has zero counts beside its number and place".
+impl From<Refused> for Answer {
+    ghost from_gives = { λ refused answer. answer ≡ refusing (number_of refused.refusal) refused.place };
+
+    fn from(refused: Refused) -> Answer {
+        Answer {
+            number: refused.refusal.number(),
+            place: refused.place,
+            count: 0,
+            windows: 0,
+        }
     }
 }
 
-// A rule that is refused.
-pub fn refused_rule(number: u32, place: u32) -> Opened
-    ensures { result ≡ refusing_rule number place }
-{
-    Opened {
-        number: number,
-        place: place,
-        positions: 0,
-        shortest: 0,
+impl From<Refused> for Opened {
+    ghost from_gives = { λ refused opened. opened ≡ refusing_rule (number_of refused.refusal) refused.place };
+
+    fn from(refused: Refused) -> Opened {
+        Opened {
+            number: refused.refusal.number(),
+            place: refused.place,
+            positions: 0,
+            shortest: 0,
+        }
     }
 }
 
-// A rule that is accepted.
-pub fn accepted_rule(positions: u32, shortest: u32) -> Opened
-    ensures { result ≡ accepting_rule positions shortest }
-{
-    Opened {
-        number: 0,
-        place: 0,
-        positions: positions,
-        shortest: shortest,
+impl From<Refused> for Text {
+    ghost from_gives = { λ refused text. text ≡ refusing_text (number_of refused.refusal) refused.place };
+
+    fn from(refused: Refused) -> Text {
+        Text {
+            number: refused.refusal.number(),
+            place: refused.place,
+            length: 0,
+        }
     }
 }
 
-// No text is written.
-pub fn refused_text(number: u32, place: u32) -> Text
-    ensures { result ≡ refusing_text number place }
-{
-    Text {
-        number: number,
-        place: place,
-        length: 0,
+impl From<Refused> for Covered {
+    ghost from_gives = { λ refused covered. covered ≡ refusing_name (number_of refused.refusal) refused.place };
+
+    fn from(refused: Refused) -> Covered {
+        Covered {
+            number: refused.refusal.number(),
+            place: refused.place,
+            covered: 0,
+        }
     }
 }
 
-// A text of so many bytes is.
-pub fn written(length: u32) -> Text
-    ensures { result ≡ written_text length }
-{
-    Text {
-        number: 0,
-        place: 0,
-        length: length,
-    }
-}
-
-// Nothing is said of the name.
-pub fn refused_name(number: u32, place: u32) -> Covered
-    ensures { result ≡ refusing_name number place }
-{
-    Covered {
-        number: number,
-        place: place,
-        covered: 0,
-    }
-}
-
-// A name is covered, or it is not.
-pub fn judged_name(covers: bool) -> Covered
-    ensures { result ≡ judged_name covers }
-{
-    if covers {
-        return Covered {
+impl Answer {
+    // A finished result.
+    pub fn counted(count: u32, windows: u32) -> Answer
+        ensures { result ≡ counting count windows }
+    {
+        Answer {
             number: 0,
             place: 0,
-            covered: 1,
-        };
+            count,
+            windows,
+        }
     }
-    Covered {
-        number: 0,
-        place: 0,
-        covered: 0,
+}
+
+impl Opened {
+    // A rule that is accepted.
+    pub fn accepted(positions: u32, shortest: u32) -> Opened
+        ensures { result ≡ accepting_rule positions shortest }
+    {
+        Opened {
+            number: 0,
+            place: 0,
+            positions,
+            shortest,
+        }
+    }
+}
+
+impl Text {
+    // A text of so many bytes is written.
+    pub fn written(length: u32) -> Text
+        ensures { result ≡ written_text length }
+    {
+        Text {
+            number: 0,
+            place: 0,
+            length,
+        }
+    }
+}
+
+impl Covered {
+    // A name is covered, or it is not.
+    pub fn judged(covers: bool) -> Covered
+        ensures { result ≡ judged_name covers }
+    {
+        Covered {
+            number: 0,
+            place: 0,
+            covered: u32::from(covers),
+        }
     }
 }

@@ -1,10 +1,6 @@
 -- Places of a text that pass a test, and what it is to have searched for them. Assumes nothing.
-use Rattle.std.specs.Prelude.{◌≡◌, Bool, false, not, List, ℕ, ◌+◌, ◌≤◌, ◌<◌, eqb, get_or}
+use Rattle.std.specs.Prelude.{◌≡◌, Bool, false, not, List, ℕ, ◌≤◌, ◌<◌, eqb, get_or}
 use Rattle.std.specs.Int.Bits.{bit_and}
-
--- A block of the k places from i on: where it says no, none of them passes the test.
-pub record BlockTested (f : ℕ → Bool) (i k : ℕ) (r : Bool) : Type 0 where
-  pub none : r ≡ false → (j : ℕ) → j < k → f (i + j) ≡ false
 
 -- None of the places from i up to r passes the test; `end` bounds r.
 pub record NoneBefore (f : ℕ → Bool) (i end r : ℕ) : Type 0 where
@@ -12,16 +8,11 @@ pub record NoneBefore (f : ℕ → Bool) (i end r : ℕ) : Type 0 where
   pub within : r ≤ end
   pub none : (j : ℕ) → i ≤ j → j < r → f j ≡ false
 
--- The lane j of a block, or its end, where j does not pass the test.
-pub record LaneOrEnd (hit : Bool) (j r : ℕ) : Type 0 where
-  pub few : r ≤ 64
-  pub over : j < r → hit ≡ false
-
--- Where a block of 64 places starts that reaches past i, and not past the place `last`.
-pub record BlockStart (i last r : ℕ) : Type 0 where
-  pub back : r ≤ i
-  pub within : r ≤ last
-  pub reaches : i < r + 64
+-- The same of a test that code asks, a closure: at each of those places a call of it may give `false`.
+pub record NoneFound (gives : ℕ → Bool → Type 0) (i end r : ℕ) : Type 0 where
+  pub fore : i ≤ r
+  pub within : r ≤ end
+  pub none : (j : ℕ) → i ≤ j → j < r → gives j false
 
 -- ---- the tests
 

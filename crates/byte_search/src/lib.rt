@@ -1,146 +1,152 @@
-// The next place of a text that passes a test, as memchr finds a byte. A block of 64 places is tested
-// with no branch between them, so that the compiler makes it vector code: whether one of them passes,
-// or the first that does. Blocks where none does are skipped; what is left is found byte by byte. A
-// function takes no test as an argument, so each test has its own functions: here are those for one
-// byte, and what the blocks of every test share.
+// The next place that passes a test, as memchr finds a byte. The test is a closure over what it reads, and
+// is compiled into each search that it is passed to. A block of N places is tested with no branch between
+// them, so that the compiler makes it vector code: whether one of them passes, or the first that does.
+// Blocks where none does are skipped; what is left is tested place by place.
 #![tactic(auto)]
 
-ghost use Rattle.std.specs.Prelude.{◌≡◌, ◌+◌, ◌<◌, ◌≤◌, length};
-ghost use Rattle.byte_search.specs.BlockTests.{BlockTested, NoneBefore, LaneOrEnd, BlockStart, same};
+ghost use Rattle.std.specs.Prelude.{◌≡◌, ℕ, ◌+◌, ◌<◌, ◌≤◌, false, length};
+ghost use Rattle.byte_search.specs.BlockTests.{NoneBefore, NoneFound, same};
 
 // A byte as an index. Its contract tells a caller the bound, so that no proof in a loop has to.
 pub fn byte_index(c: u8) -> usize
     ensures { (result ≡ c) × (result < 256) }
 {
-    c as usize
+    usize::from(c)
+}
+
+// Whether one of the N places from i on passes.
+pub fn any_in_block<const N: u8, F: Fn(usize) -> bool + Copy>(test: F, i: usize) -> bool
+    requires fits { i + N ≤ usize.MAX }
+    requires callable { (k : ℕ) → k < i + N → F.pre test k }
+    ensures { result ≡ false → NoneFound (F.post test) i (i + N) (i + N) }
+{
+    let mut any = false;
+    for j in 0..N {
+        any = any | test(i + usize::from(j));
+    }
+    any
 }
 
 // The lane j of a block where it passes the test, else the block's end.
-pub fn lane_or_end(hit: bool, j: u8) -> u8
-    requires { j < 64 }
-    ensures { LaneOrEnd hit j result }
+fn lane_or_end<const N: u8>(hit: bool, j: u8) -> u8
+    requires { j < N }
+    ensures few { result ≤ N }
+    ensures over { j < result → hit ≡ false }
 {
-    if hit {
-        return j;
-    }
-    64
+    if hit { j } else { N }
 }
 
-// The lesser of two lanes.
-pub fn min(a: u8, b: u8) -> u8
-    ensures { (result ≤ a) × (result ≤ b) }
+// The first of them, or the place after them. Lanes are bytes, so that the compiler takes the least of many at once.
+pub fn first_in_block<const N: u8, F: Fn(usize) -> bool + Copy>(test: F, i: usize) -> usize
+    requires fits { i + N ≤ usize.MAX }
+    requires callable { (k : ℕ) → k < i + N → F.pre test k }
+    ensures { NoneFound (F.post test) i (i + N) result }
 {
-    if b < a {
-        return b;
+    let mut first = N;
+    for j in 0..N {
+        let hit = test(i + usize::from(j));
+        first = first.min(lane_or_end::<N>(hit, j));
     }
-    a
+    i + usize::from(first)
 }
 
-// Where the next block starts: at i, or so that it ends with the text, `last` being the last place for one.
-pub fn block_start(i: usize, last: usize) -> usize
-    requires { i < last + 64 }
-    ensures { BlockStart i last result }
+// Skips whole blocks where none passes: the place up to which none does.
+pub fn skip_whole_blocks<const N: u8, F: Fn(usize) -> bool + Copy>(
+    test: F,
+    i: usize,
+    end: usize,
+) -> usize
+    requires nonempty { 0 < N }
+    requires i_le_end { i ≤ end }
+    requires callable { (k : ℕ) → k < end → F.pre test k }
+    ensures { NoneFound (F.post test) i end result }
 {
-    if last < i {
-        return last;
+    let size = usize::from(N);
+    // A `while`, since the place that the blocks reach is the answer.
+    let mut i = i;
+    while size <= end - i {
+        if any_in_block::<N, F>(test, i) {
+            return i;
+        }
+        i += size;
     }
     i
 }
 
-// ---- a byte
-
-// Whether one of the 64 bytes from i on is x.
-fn block_has(text: &[u8], x: u8, i: usize) -> bool
-    requires { i + 64 ≤ length text.now }
-    ensures { BlockTested (same text.now x) i 64 result }
-{
-    let mut z = false;
-    let mut j = 0;
-    while j < 64 {
-        z = z | (text[i + j] == x);
-        j += 1;
-    }
-    z
-}
-
-// The first of them, or the place after them.
-pub fn first_in_block(text: &[u8], x: u8, i: usize) -> usize
-    requires { i + 64 ≤ length text.now }
-    ensures { NoneBefore (same text.now x) i (i + 64) result }
-{
-    let mut f: u8 = 64;
-    let mut j: u8 = 0;
-    while j < 64 {
-        let k = j as usize;
-        let hit = text[i + k] == x;
-        f = min(f, lane_or_end(hit, j));
-        j += 1;
-    }
-    i + f as usize
-}
-
-// Skips blocks where it does not stand, the last block being the last 64 places: the place up to which it does not.
-pub fn skip_blocks(text: &[u8], x: u8, i: usize, end: usize) -> usize
-    requires end_in_bounds { end ≤ length text.now }
+// The same, the last block being the last N places, which may begin in one that is passed.
+pub fn skip_blocks<const N: u8, F: Fn(usize) -> bool + Copy>(test: F, i: usize, end: usize) -> usize
+    requires nonempty { 0 < N }
     requires i_le_end { i ≤ end }
-    ensures { NoneBefore (same text.now x) i end result }
+    requires callable { (k : ℕ) → k < end → F.pre test k }
+    ensures { NoneFound (F.post test) i end result }
 {
-    if end < 64 {
+    let size = usize::from(N);
+    if end < size {
         return i;
     }
-    let last = end - 64;
+    let last = end - size;
+    // A `while` for the same reason.
     let mut i = i;
     while i < end {
-        let at = block_start(i, last);
-        if block_has(text, x, at) {
+        let at = i.min(last);
+        if any_in_block::<N, F>(test, at) {
             return i;
         }
-        i = at + 64;
+        i = at + size;
     }
     i
 }
 
-// The next one, byte by byte, or `end`.
-fn find_bytewise(text: &[u8], x: u8, i: usize, end: usize) -> usize
-    requires end_in_bounds { end ≤ length text.now }
+// The next one, place by place, or `end`.
+pub fn find_in_turn<F: Fn(usize) -> bool + Copy>(test: F, i: usize, end: usize) -> usize
     requires i_le_end { i ≤ end }
-    ensures { NoneBefore (same text.now x) i end result }
+    requires callable { (k : ℕ) → k < end → F.pre test k }
+    ensures { NoneFound (F.post test) i end result }
 {
-    let mut i = i;
-    while i < end {
-        if text[i] == x {
-            return i;
+    for j in i..end {
+        if test(j) {
+            return j;
         }
-        i += 1;
     }
-    i
+    end
 }
 
 // The next one, or `end`, where it is likely to be far.
-fn find_far(text: &[u8], x: u8, i: usize, end: usize) -> usize
-    requires end_in_bounds { end ≤ length text.now }
+fn find_far<const N: u8, F: Fn(usize) -> bool + Copy>(test: F, i: usize, end: usize) -> usize
+    requires nonempty { 0 < N }
     requires i_le_end { i ≤ end }
-    ensures { NoneBefore (same text.now x) i end result }
+    requires callable { (k : ℕ) → k < end → F.pre test k }
+    ensures { NoneFound (F.post test) i end result }
 {
-    let j = skip_blocks(text, x, i, end);
-    if end - j < 64 {
-        return find_bytewise(text, x, j, end);
+    let j = skip_blocks::<N, F>(test, i, end);
+    if end - j < usize::from(N) {
+        return find_in_turn(test, j, end);
     }
-    first_in_block(text, x, j)
+    first_in_block::<N, F>(test, j)
 }
 
 // The next one, or `end`: the first block tells its place at once.
+pub fn find<const N: u8, F: Fn(usize) -> bool + Copy>(test: F, i: usize, end: usize) -> usize
+    requires nonempty { 0 < N }
+    requires i_le_end { i ≤ end }
+    requires callable { (k : ℕ) → k < end → F.pre test k }
+    ensures { NoneFound (F.post test) i end result }
+{
+    if end - i < usize::from(N) {
+        return find_far::<N, F>(test, i, end);
+    }
+    let j = first_in_block::<N, F>(test, i);
+    if j - i < usize::from(N) {
+        return j;
+    }
+    find_far::<N, F>(test, j, end)
+}
+
+// The next place of the byte x, or `end`.
 pub fn find_byte(text: &[u8], x: u8, i: usize, end: usize) -> usize
     requires end_in_bounds { end ≤ length text.now }
     requires i_le_end { i ≤ end }
     ensures { NoneBefore (same text.now x) i end result }
 {
-    if end - i < 64 {
-        return find_far(text, x, i, end);
-    }
-    let j = first_in_block(text, x, i);
-    if j - i < 64 {
-        return j;
-    }
-    find_far(text, x, j, end)
+    find::<64, _>(|k| text[k] == x, i, end)
 }

@@ -1,6 +1,6 @@
 -- The laws of the returns and loops of src/lib.rt, on plain values. Assumes nothing.
-use mathlib.Core.Path.{◌≡◌, refl, ap, ◌∙◌}
-use mathlib.Core.List.{List, [], ◌∷◌}
+use mathlib.Core.Path.{◌≡◌, refl, ◌∙◌}
+use mathlib.Core.List.{List}
 use mathlib.Core.Bool.{Bool, true, false, cond}
 use Prim.Native.Nat.{ℕ, suc, ◌+◌, ◌-◌, ◌*◌, ◌/◌, ◌%◌, ◌^◌, ◌≤◌, ◌<◌}
 use native.Mathlib.Omega.{arith}
@@ -8,21 +8,20 @@ use native.Mathlib.Nat.{one-mul}
 use lib.ListN.{get_or}
 use lib.Dec.{eqb, lit<}
 use lib.Pow.{shl_exact}
-use borrow.Author.Tests.{eq-eqb, ne_eqb}
 use Rattle.shift_and.specs.ForwardStep.{top_bit}
 use Rattle.shift_and.proofs.Bridge.{top-bit}
 use Rattle.model.specs.RuleText.{other_case}
-use Rattle.byte_set.specs.Sets.{member, add_byte, add_where, add_range, widen, turn, minus_word, minus, is_empty}
+use Rattle.byte_set.specs.Sets.{member, add_byte, add_where, add_range, widen}
 
 -- the code's `1 << k` is the power, where k is below 64
 pub one_bit : (c : ℕ) → 1 * 2 ^ (c % 64) % 2 ^ 64 ≡ 2 ^ (c % 64)
 one_bit c = shl_exact 1 (c % 64) 64 (lit< tt) (omega arith) ∙ one-mul _
 
-pub has-is : (w : List ℕ) (c : ℕ) → eqb (get_or w (c / 64) 0 / 2 ^ (c % 64) % 2) 1 ≡ member w c
+pub member_is : (w : List ℕ) (c : ℕ) → eqb (get_or w (c / 64) 0 / 2 ^ (c % 64) % 2) 1 ≡ member w c
 unfolding member top_bit
-has-is w c = top-bit (c % 64) (get_or w (c / 64) 0)
+member_is w c = top-bit (c % 64) (get_or w (c / 64) 0)
 
--- ---- `add_range`
+-- ---- `insert_range`
 pub record Adding (w₀ : List ℕ) (lo hi : ℕ) (w : List ℕ) (c : ℕ) : Type 0 where
   pub above : lo ≤ c
   pub below : c ≤ hi
@@ -45,14 +44,7 @@ module _ (w₀ : List ℕ) (lo hi : ℕ) where
         let k : suc hi - c ≡ 1 = omega arith in
         e ∙ (rw k at g.rest)
 
--- ---- `both_cases`, `widened`
-pub was_widened : (w : List ℕ) (fold : Bool) → fold ≡ true → (r : List ℕ) → r ≡ widen true w → r ≡ widen fold w
-was_widened w fold e r q = rw e q
-
-pub not_widened : (w : List ℕ) (fold : Bool) → fold ≡ false → w ≡ widen fold w
-unfolding widen
-not_widened w fold e = rw e
-
+-- ---- `both_cases`
 pub record Widening (w₀ w : List ℕ) (c : ℕ) : Type 0 where
   pub within : c ≤ 123
   pub rest : add_where (λ x. member w₀ (other_case x)) w c (123 - c) ≡ widen true w₀
@@ -81,37 +73,3 @@ module _ (w₀ : List ℕ) where
     widen-over h =
         let k : 123 - c ≡ 0 = omega arith in
         rw k at g.rest
-
--- ---- `turned_round`, `without`, `is_empty`
-pub not_turned : (w : List ℕ) (turned : Bool) → turned ≡ false → w ≡ turn turned w
-unfolding turn
-not_turned w turned e = rw e
-
-pub turned-is : (w : List ℕ) (turned : Bool) → turned ≡ true → (2 ^ 64 - 1 - get_or w 0 0) ∷ (2 ^ 64 - 1 - get_or w 1 0) ∷ (2 ^ 64 - 1 - get_or w 2 0) ∷ (2 ^ 64 - 1 - get_or w 3 0) ∷ [] ≡ turn turned w
-unfolding turn
-turned-is w turned e = rw e
-
-pub without_is : (w v : List ℕ) → minus_word w v 0 ∷ minus_word w v 1 ∷ minus_word w v 2 ∷ minus_word w v 3 ∷ [] ≡ minus w v
-unfolding minus
-without_is w v = refl
-
-module _ (w : List ℕ) where
-  pub empty_0 : (get_or w 0 0 ≡ 0 → ⊥) → false ≡ is_empty w
-  unfolding is_empty
-  empty_0 n = rw (ne_eqb _ _ n)
-
-  pub empty_1 : get_or w 0 0 ≡ 0 → (get_or w 1 0 ≡ 0 → ⊥) → false ≡ is_empty w
-  unfolding is_empty
-  empty_1 e n = rw (eq-eqb _ _ e, ne_eqb _ _ n)
-
-  pub empty_2 : get_or w 0 0 ≡ 0 → get_or w 1 0 ≡ 0 → (get_or w 2 0 ≡ 0 → ⊥) → false ≡ is_empty w
-  unfolding is_empty
-  empty_2 e f n = rw (eq-eqb _ _ e, eq-eqb _ _ f, ne_eqb _ _ n)
-
-  pub empty_3 : get_or w 0 0 ≡ 0 → get_or w 1 0 ≡ 0 → get_or w 2 0 ≡ 0 → eqb (get_or w 3 0) 0 ≡ is_empty w
-  unfolding is_empty
-  empty_3 e f g = rw (eq-eqb _ _ e, eq-eqb _ _ f, eq-eqb _ _ g)
-
--- ---- `class_set`
-pub class-set-is : (ranges wide set : List ℕ) (fold turned : Bool) → wide ≡ widen fold ranges → set ≡ turn turned wide → set ≡ turn turned (widen fold ranges)
-class-set-is ranges wide set fold turned e f = f ∙ ap (turn turned) e

@@ -1,9 +1,9 @@
-// Sets of bytes as four words: byte c is bit c % 64 of word c / 64. And the fold, by its formula.
+// Sets of bytes, and the fold, by its formula.
 #![tactic(auto)]
 
 ghost use Rattle.std.specs.Prelude.{◌≡◌, true, ◌≤◌, ◌<◌};
 ghost use Rattle.model.specs.RuleText.{other_case};
-ghost use Rattle.byte_set.specs.Sets.{member, add_byte, add_range, widen, turn, minus, is_empty};
+ghost use Rattle.byte_set.specs.Sets.{member, none, add_byte, add_range, widen, turn, minus, is_empty};
 
 // The other case of a letter, any other byte itself: "bytes 65 to 90 and 97 to 122 move by 32", which turns bit 5 round.
 pub fn other_case(c: usize) -> u8
@@ -17,109 +17,106 @@ pub fn other_case(c: usize) -> u8
     b ^ (letter << 5)
 }
 
-// Whether c is in the set.
-pub fn has(set: [u64; 4], c: u8) -> bool
-    ensures { result ≡ member set c }
-{
-    let w = (c / 64) as usize;
-    (set[w] >> (c % 64)) % 2 == 1
+// A set of bytes in four words: byte c is bit c % 64 of word c / 64.
+#[derive(Clone, Copy, Debug, Default, PartialEq, Eq)]
+pub struct ByteSet {
+    words: [u64; 4],
 }
 
-// The set with c added.
-pub fn add_byte(set: [u64; 4], c: u8) -> [u64; 4]
-    ensures { result ≡ add_byte set c }
-{
-    let mut s = set;
-    let w = (c / 64) as usize;
-    s[w] = s[w] | 1 << (c % 64);
-    s
-}
-
-// The set with the bytes from lo to hi added.
-pub fn add_range(set: [u64; 4], lo: u8, hi: u8) -> [u64; 4]
-    requires { lo ≤ hi }
-    ensures { result ≡ add_range set lo hi }
-{
-    let mut s = set;
-    let mut c = lo;
-    while c < hi {
-        let t = add_byte(s, c);
-        s = t;
-        c += 1;
+impl ByteSet {
+    // The set with no byte.
+    pub fn new() -> ByteSet
+        ensures { result.words ≡ none }
+    {
+        ByteSet { words: [0; 4] }
     }
-    add_byte(s, c)
-}
 
-// The set widened by the other case of its letters, which are all among the bytes from `A` to `z`.
-fn both_cases(set: [u64; 4]) -> [u64; 4]
-    ensures { result ≡ widen true set }
-{
-    let mut s = set;
-    let mut c = 65usize;
-    while c < 123 {
-        let b = c as u8;
-        let o = other_case(c);
-        c += 1;
-        if has(set, o) {
-            let t = add_byte(s, b);
-            s = t;
+    #[tactic(auto, using(crate::proofs::SetSteps::member_is))]
+    pub fn contains(self, c: u8) -> bool
+        ensures { result ≡ member self.words c }
+    {
+        (self.words[usize::from(c / 64)] >> (c % 64)) % 2 == 1
+    }
+
+    #[tactic(auto, using(crate::proofs::SetSteps::one_bit), unfolding(crate::specs::Sets::add_byte))]
+    pub fn insert(&mut self, c: u8)
+        ensures { self.new.words ≡ add_byte self.old.words c }
+    {
+        self.words[usize::from(c / 64)] |= 1 << (c % 64);
+    }
+
+    // Adds the bytes from `low` to `high`.
+    pub fn insert_range(&mut self, low: u8, high: u8)
+        requires { low ≤ high }
+        ensures { self.new.words ≡ add_range self.old.words low high }
+    {
+        for c in low..=high {
+            self.insert(c);
         }
     }
-    s
-}
 
-// The same with the fold flag set, and the set as it is without.
-pub fn widened(set: [u64; 4], fold: bool) -> [u64; 4]
-    ensures { result ≡ widen fold set }
-{
-    if fold {
-        return both_cases(set);
+    // The set widened by the other case of its letters, which are all among the bytes from `A` to `z`.
+    fn both_cases(self) -> ByteSet
+        ensures { result.words ≡ widen true self.words }
+    {
+        let mut wide = self;
+        for c in 65..123usize {
+            if self.contains(other_case(c)) {
+                wide.insert(c as u8);
+            }
+        }
+        wide
     }
-    set
-}
 
-// The set turned round, where `turned` says so.
-pub fn turned_round(set: [u64; 4], turned: bool) -> [u64; 4]
-    ensures { result ≡ turn turned set }
-{
-    if turned {
-        return [!set[0], !set[1], !set[2], !set[3]];
+    // The same with the fold flag set, and the set as it is without.
+    #[tactic(auto, unfolding(crate::specs::Sets::widen))]
+    pub fn widened(self, fold: bool) -> ByteSet
+        ensures { result.words ≡ widen fold self.words }
+    {
+        if fold { self.both_cases() } else { self }
     }
-    set
-}
 
-// The set of a class: its ranges, widened, and turned round only after that.
-pub fn class_set(ranges: [u64; 4], fold: bool, turned: bool) -> [u64; 4]
-    ensures { result ≡ turn turned (widen fold ranges) }
-{
-    let wide = widened(ranges, fold);
-    turned_round(wide, turned)
-}
+    // The set turned round, where `turned` says so.
+    #[tactic(auto, unfolding(crate::specs::Sets::turn))]
+    pub fn turned_round(self, turned: bool) -> ByteSet
+        ensures { result.words ≡ turn turned self.words }
+    {
+        if !turned {
+            return self;
+        }
+        let [a, b, c, d] = self.words;
+        ByteSet {
+            words: [!a, !b, !c, !d],
+        }
+    }
 
-// The set without the bytes of another.
-pub fn without(set: [u64; 4], other: [u64; 4]) -> [u64; 4]
-    ensures { result ≡ minus set other }
-{
-    [
-        set[0] & !other[0],
-        set[1] & !other[1],
-        set[2] & !other[2],
-        set[3] & !other[3],
-    ]
-}
+    // The set of a class with these ranges: widened, and turned round only after that.
+    pub fn of_class(ranges: ByteSet, fold: bool, turned: bool) -> ByteSet
+        ensures { result.words ≡ turn turned (widen fold ranges.words) }
+    {
+        let wide = ranges.widened(fold);
+        wide.turned_round(turned)
+    }
 
-// Whether the set has no byte.
-pub fn is_empty(set: [u64; 4]) -> bool
-    ensures { result ≡ is_empty set }
-{
-    if set[0] != 0 {
-        return false;
+    // The set without the bytes of another.
+    #[tactic(auto, unfolding(crate::specs::Sets::minus))]
+    pub fn without(self, other: ByteSet) -> ByteSet
+        ensures { result.words ≡ minus self.words other.words }
+    {
+        ByteSet {
+            words: [
+                self.words[0] & !other.words[0],
+                self.words[1] & !other.words[1],
+                self.words[2] & !other.words[2],
+                self.words[3] & !other.words[3],
+            ],
+        }
     }
-    if set[1] != 0 {
-        return false;
+
+    #[tactic(auto, unfolding(crate::specs::Sets::is_empty))]
+    pub fn is_empty(self) -> bool
+        ensures { result ≡ is_empty self.words }
+    {
+        matches!(self.words, [0, 0, 0, 0])
     }
-    if set[2] != 0 {
-        return false;
-    }
-    set[3] == 0
 }

@@ -1,17 +1,17 @@
 -- A table whose codes' entries are unions is that of the positions read by fit. On plain values. Assumes nothing.
-use mathlib.Core.Path.{◌≡◌, refl, sym, ap, ap₂, ◌∙◌}
+use mathlib.Core.Path.{◌≡◌, refl, sym, ap, ap₂, subst, ◌∙◌}
 use mathlib.Core.Bool.{Bool, true, false, not, cond, ◌&&◌, ◌||◌, or-false}
-use mathlib.Core.Logic.{◌≢◌}
+use mathlib.Core.Logic.{◌≢◌, ◌⊎◌, inl, inr}
 use mathlib.Core.List.{List, [], ◌∷◌, ◌++◌, append_assoc}
-use Prim.Native.Nat.{ℕ, zero, suc, ◌+◌, ◌-◌, ◌*◌, ◌^◌, ◌≤◌, ◌<◌}
+use Prim.Native.Nat.{ℕ, zero, suc, ◌+◌, ◌-◌, ◌*◌, ◌≤◌, ◌<◌}
 use native.Mathlib.Omega.{arith}
 use native.Mathlib.Decide.{ℕ_discrete}
 use native.Mathlib.Numerals.{add-one}
 use native.Mathlib.Nat.{zero-add, le_of_suc-le-suc, not-suc-le-zero}
 use lib.Bits.{bit_or}
 use lib.Dec.{eqb, eqb→eq}
-use lib.ListN.{length, get_or, set, take, drop, length-set, length-append}
-use lib.Seq.{take-suc, take_all, drop_at, drop-drop, length-take-le, get_or-set_same, get_or-set_other}
+use lib.ListN.{length, get_or, set, take, drop, length-set, length-append, length-drop}
+use lib.Seq.{take-suc, take_all, drop-cons, drop_at, drop-drop, length-take-le, get_or-set_same, get_or-set_other}
 use borrow.Author.Tests.{eq-eqb}
 use borrow.Rule.Slice.PartMut.{mid_of, put_mid, mid_len, same_len_mid}
 use Rattle.model.specs.Occurrence.{Position}
@@ -27,7 +27,13 @@ use Rattle.shift_and_wide.proofs.Masks.{word_or}
 use Rattle.rule_table.specs.Tables.{plane_of, table_of, row_of, Counted, PlaneFilled, Filled}
 use Rattle.rule_table.proofs.FillLaws.{zero_word, entry_at, plane_is, none_above, planes_below, four_planes, row-length, counted-length, plane_put}
 use Rattle.rule_table.proofs.Encoded.{plane_at}
-use Rattle.code_list.proofs.CodeLists.{sets-long, codes_few, named_once, sets_right}
+use Rattle.std.specs.Slice.Iter.{iter_rest, chunks_exact_rest, chunks_exact_size}
+use Rattle.std.specs.Iterator.Adapters.{zip_first, zip_second}
+use Rattle.std.specs.declared.slice.ChunksExact.{ChunksExact}
+use Rattle.std.specs.declared.slice.Iter.{Iter}
+use Rattle.std.specs.declared.iter.Zip.{Zip}
+use Rattle.std.proofs.lemmas.List.{take_at}
+use Rattle.code_list.proofs.CodeLists.{sets-long, named_once, sets_right}
 use Rattle.code_table.specs.CodeTables.{union_below, set_at, PlaneFittable, PlaneFits, WordFittable, WordFits, TableFittable, TableFits, PlaneReadable, PlaneFitted, Readable, Fitted}
 use Rattle.code_table.proofs.CodeMasks.{share_mask, share_zero, share-more, plain_entry, code-entry}
 
@@ -142,48 +148,69 @@ module _ (codes sets : List ℕ) (fine : codes_wrong codes sets ≡ false) where
 
 -- ---- `fit_plane`: the entries of the first k codes are unions
 
-pub record Fitting (codes sets t₀ t : List ℕ) (k at : ℕ) : Type 0 where
+pub record Fitting (codes sets t₀ t : List ℕ) (k : ℕ) : Type 0 where
   pub within : k ≤ length codes
-  pub place : at ≡ set_bytes * k
   pub long : length t ≡ 256
   pub plain : (x : ℕ) → x < 256 → one_of (take k codes) x ≡ false → get_or t x 0 ≡ get_or t₀ x 0
   pub code : (j : ℕ) → j < k → get_or t (get_or codes j 0) 0 ≡ union_below (in_set (set_at sets j)) t₀ 256
 
-module _ (codes sets t₀ : List ℕ) (q : PlaneFittable codes sets t₀) where
-  pub fit_begun : Fitting codes sets t₀ t₀ 0 0
-  fit_begun = record { within = omega arith; place = refl; long = q.long; plain = λ x l e. refl; code = λ j l. absurd (not-suc-le-zero l) }
+-- what the loop goes on with: the codes from k on, and their sets
+pub record FittingOn (codes sets t₀ t : List ℕ) (k : ℕ) (it : Zip (Iter ℕ) (ChunksExact ℕ)) : Type 0 where
+  pub fitting : Fitting codes sets t₀ t k
+  pub codes-left : iter_rest (zip_first it) ≡ drop k codes
+  pub size : chunks_exact_size (zip_second it) ≡ set_bytes
+  pub sets-left : chunks_exact_rest (zip_second it) ≡ drop (set_bytes * k) sets
 
-  module _ (t : List ℕ) (k at : ℕ) (g : Fitting codes sets t₀ t k at) where
-    pub fit_over : length codes ≤ k → PlaneFits codes sets t₀ t
-    fit_over h = let w = g.within in record {
+module _ (codes sets t₀ : List ℕ) (q : PlaneFittable codes sets t₀) where
+  pub fit_begun : (it : Zip (Iter ℕ) (ChunksExact ℕ)) → iter_rest (zip_first it) ≡ codes → chunks_exact_size (zip_second it) ≡ set_bytes → chunks_exact_rest (zip_second it) ≡ sets
+      → FittingOn codes sets t₀ t₀ 0 it
+  fit_begun it a z b = record {
+    fitting = record { within = omega arith; long = q.long; plain = λ x l e. refl; code = λ j l. absurd (not-suc-le-zero l) };
+    codes-left = a;
+    size = z;
+    sets-left = b;
+  }
+
+  module _ (t : List ℕ) (k : ℕ) (it : Zip (Iter ℕ) (ChunksExact ℕ)) (on : FittingOn codes sets t₀ t k it) where
+    abbrev g : Fitting codes sets t₀ t k
+    g = on.fitting
+
+    over : length codes ≤ k → PlaneFits codes sets t₀ t
+    over h = let w = g.within in record {
       long = g.long;
       plain = λ x l e. g.plain x l (none-taken codes k x e);
       code = λ j l. g.code j (omega arith);
     }
 
-    module _ (l : k < length codes) where
-      pub fit_room : at + set_bytes ≤ length sets
-      fit_room = omega (arith, g.place, sets-long codes sets q.fine, codes_few codes sets q.fine)
+    -- the codes end, and their sets with them
+    pub fit_over : (length (iter_rest (zip_first it)) ≡ 0) ⊎ (length (chunks_exact_rest (zip_second it)) < chunks_exact_size (zip_second it)) → PlaneFits codes sets t₀ t
+    fit_over (inl e) = over (omega (arith, length-drop k codes, ap length on.codes-left, e))
+    fit_over (inr l) = over (omega (arith, l, on.size, ap length on.sets-left, length-drop (set_bytes * k) sets, sets-long codes sets q.fine))
 
-      pub fit_end : at + set_bytes < 2 ^ 64
-      fit_end = omega (arith, g.place, codes_few codes sets q.fine)
+    module _ (it' : Zip (Iter ℕ) (ChunksExact ℕ)) (c : ℕ) (e : iter_rest (zip_first it) ≡ c ∷ iter_rest (zip_first it')) (set-k : List ℕ)
+        (z : chunks_exact_size (zip_second it') ≡ chunks_exact_size (zip_second it)) (es : chunks_exact_rest (zip_second it) ≡ set-k ++ chunks_exact_rest (zip_second it'))
+        (n : length set-k ≡ chunks_exact_size (zip_second it)) where
+      l : k < length codes
+      l = omega (arith, length-drop k codes, ap length (sym on.codes-left ∙ e))
 
-      pub fit_set-long : length (mid_of at (at + set_bytes - at) sets) ≡ set_bytes
-      fit_set-long = mid_len at (at + set_bytes) sets fit_room ∙ (let z : at + set_bytes - at ≡ set_bytes = omega arith in z)
+      next : get_or codes k 0 ∷ drop (suc k) codes ≡ c ∷ iter_rest (zip_first it')
+      next = sym (drop-cons codes k 0 l) ∙ sym on.codes-left ∙ e
 
-      set_is : mid_of at (at + set_bytes - at) sets ≡ set_at sets k
-      set_is = ap₂ (λ (n i : ℕ). take n (drop i sets)) (let z : at + set_bytes - at ≡ set_bytes = omega arith in z) g.place
+      ec : c ≡ get_or codes k 0
+      ec = sym (ap (λ (xs : List ℕ). get_or xs 0 0) next)
 
-      module _ (u : ℕ) (eu : u ≡ union_below (in_set (mid_of at (at + set_bytes - at) sets)) t 256) (c : ℕ) (ec : c ≡ get_or codes k 0) (lc : c < 256) where
+      set_is : set-k ≡ set_at sets k
+      set_is = sym (take_at set-k (chunks_exact_rest (zip_second it')) set_bytes (n ∙ on.size)) ∙ ap (take set_bytes) (sym es ∙ on.sets-left)
+
+      module _ (u : ℕ) (eu : u ≡ union_below (in_set set-k) t 256) (bytes : (i : ℕ) → get_or codes i 0 < 256) where
         union_is : u ≡ union_below (in_set (set_at sets k)) t₀ 256
         union_is =
             eu ∙ ap (λ (s : List ℕ). union_below (in_set s) t 256) set_is
             ∙ union_same (in_set (set_at sets k)) t t₀ 256 (λ x h e. g.plain x h (none-taken codes k x (no_code_in codes sets q.fine k x l h e)))
 
-        pub fit_turn : Fitting codes sets t₀ (set t c u) (k + 1) (at + set_bytes)
-        fit_turn = record {
-          within = omega arith;
-          place = omega (arith, g.place);
+        fitted-more : Fitting codes sets t₀ (set t c u) (k + 1)
+        fitted-more = record {
+          within = omega (arith, l);
           long = length-set t c u ∙ g.long;
           plain = λ x h e.
               let f : (one_of (take k codes) x || eqb x (get_or codes k 0)) ≡ false = sym (one_more codes k x l) ∙ e in
@@ -192,12 +219,26 @@ module _ (codes sets t₀ : List ℕ) (q : PlaneFittable codes sets t₀) where
           code = λ j h. elim (ℕ_discrete j k) [
             | yes e ↦
                 ap (λ (i : ℕ). get_or (set t c u) (get_or codes i 0) 0) e ∙ ap (λ (i : ℕ). get_or (set t c u) i 0) (sym ec)
-                ∙ get_or-set_same t c u 0 (omega (arith, g.long)) ∙ union_is ∙ ap (λ (i : ℕ). union_below (in_set (set_at sets i)) t₀ 256) (sym e)
+                ∙ get_or-set_same t c u 0 (omega (arith, g.long, ec, bytes k)) ∙ union_is ∙ ap (λ (i : ℕ). union_below (in_set (set_at sets i)) t₀ 256) (sym e)
             | no e ↦
                 let m : j < k = omega arith in
                 get_or-set_other t c (get_or codes j 0) u 0 (λ z. apart codes j k (named_once codes sets q.fine) m l (z ∙ ec)) ∙ g.code j m
           ];
         }
+
+        on-more : FittingOn codes sets t₀ (set t c u) (k + 1) it'
+        on-more = record {
+          fitting = fitted-more;
+          codes-left = sym (ap (drop 1) next) ∙ ap (λ (j : ℕ). drop j codes) (sym (add-one k));
+          size = z ∙ on.size;
+          sets-left =
+              sym (drop_at set-k (chunks_exact_rest (zip_second it')) set_bytes (n ∙ on.size)) ∙ ap (drop set_bytes) (sym es ∙ on.sets-left)
+              ∙ drop-drop set_bytes (set_bytes * k) sets ∙ ap (λ (j : ℕ). drop j sets) (omega arith);
+        }
+
+        -- i is that code, and j one more than k
+        pub fit_turn : (i : ℕ) → i ≡ c → (j : ℕ) → k + 1 ≡ j → FittingOn codes sets t₀ (set t i u) j it'
+        fit_turn i ei j ej = subst (λ (y : ℕ). FittingOn codes sets t₀ (set t y u) j it') (sym ei) (subst (λ (y : ℕ). FittingOn codes sets t₀ (set t c u) y it') ej on-more)
 
 -- ---- a plane of a list of positions becomes that of the positions read by fit
 
@@ -245,25 +286,27 @@ module _ (codes sets t : List ℕ) (word total : ℕ) (q : WordFittable codes se
         ∙ none_above word ps x (omega arith) ∙ sym (none_above word fs x (omega (arith, fitting-length (codes_of codes sets) ps)));
   }
 
--- ---- `fit`: the planes below `word` are fitted, `at` words, and the rest is as it was
+-- ---- `fit`: the planes below `word` are fitted, and the rest is as it was
 
-pub record FittingTable (codes sets : List ℕ) (total : ℕ) (t₀ t : List ℕ) (word at : ℕ) : Type 0 where
+pub record FittingTable (codes sets : List ℕ) (total : ℕ) (t₀ t : List ℕ) (word : ℕ) : Type 0 where
   pub within : word ≤ 4
-  pub place : at ≡ word * 256
   pub long : length t ≡ 1024
-  pub rest : drop at t ≡ drop at t₀
-  pub fitted : (ps : List Position) → length ps ≤ total → t₀ ≡ table_of ps → take at t ≡ planes_below word (fitting (codes_of codes sets) ps)
+  pub rest : drop (word * 256) t ≡ drop (word * 256) t₀
+  pub fitted : (ps : List Position) → length ps ≤ total → t₀ ≡ table_of ps → take (word * 256) t ≡ planes_below word (fitting (codes_of codes sets) ps)
 
 module _ (codes sets : List ℕ) (total : ℕ) (t₀ : List ℕ) (q : TableFittable codes sets t₀) where
-  pub table-begun : FittingTable codes sets total t₀ t₀ 0 0
+  pub table-begun : FittingTable codes sets total t₀ t₀ 0
   unfolding planes_below
-  table-begun = record { within = omega arith; place = refl; long = q.long; rest = refl; fitted = λ ps l e. refl }
+  table-begun = record { within = omega arith; long = q.long; rest = refl; fitted = λ ps l e. refl }
 
-  module _ (t : List ℕ) (word at : ℕ) (g : FittingTable codes sets total t₀ t word at) where
+  module _ (t : List ℕ) (word : ℕ) (g : FittingTable codes sets total t₀ t word) where
+    abbrev at : ℕ
+    at = word * 256
+
     pub table-over : 4 ≤ word → TableFits codes sets total t₀ t
     table-over h =
         let w : word ≡ 4 = omega (arith, g.within) in
-        let a : 1024 ≡ at = omega (arith, g.place) in
+        let a : 1024 ≡ at = omega (arith) in
         let l = g.long in
         record {
           long = g.long;
@@ -274,7 +317,7 @@ module _ (codes sets : List ℕ) (total : ℕ) (t₀ : List ℕ) (q : TableFitta
 
     module _ (h : word < 4) where
       pub table-room : at + 256 ≤ length t
-      table-room = omega (arith, g.place, g.long)
+      table-room = omega (arith, g.long)
 
       part-long : length (mid_of at (at + 256 - at) t) ≡ 256
       part-long = mid_len at (at + 256) t table-room ∙ (let z : at + 256 - at ≡ 256 = omega arith in z)
@@ -285,26 +328,28 @@ module _ (codes sets : List ℕ) (total : ℕ) (t₀ : List ℕ) (q : TableFitta
       -- it is still the plane of the table that was lent
       part-is : (ps : List Position) → t₀ ≡ table_of ps → mid_of at (at + 256 - at) t ≡ plane_of word ps
       part-is ps e =
-          ap₂ (λ (n : ℕ) (u : List ℕ). take n u) (let z : at + 256 - at ≡ 256 = omega arith in z) (g.rest ∙ ap₂ (λ (i : ℕ) (u : List ℕ). drop i u) g.place e)
+          ap₂ (λ (n : ℕ) (u : List ℕ). take n u) (let z : at + 256 - at ≡ 256 = omega arith in z) (g.rest ∙ ap (drop at) e)
           ∙ plane_at ps word h
 
       pub table-turn : (plane : List ℕ) → WordFits codes sets total (mid_of at (at + 256 - at) t) plane word
-          → FittingTable codes sets total t₀ (put_mid at (at + 256 - at) t plane) (word + 1) (at + 256)
+          → FittingTable codes sets total t₀ (put_mid at (at + 256 - at) t plane) (word + 1)
       unfolding planes_below
       table-turn plane k =
           let ks = codes_of codes sets in
+          let next-at : (word + 1) * 256 ≡ at + 256 = omega arith in
           let m : length (take at t ++ plane) ≡ at + 256 = length-append (take at t) plane ∙ ap₂ ◌+◌ (length-take-le at t (omega (arith, table-room))) k.long in
           record {
             within = omega arith;
-            place = omega (arith, g.place);
             long = same_len_mid at (at + 256 - at) t plane (k.long ∙ sym part-long) ∙ g.long;
             rest =
-                ap (drop (at + 256)) (sym (append_assoc (take at t) plane (drop (at + 256 - at) (drop at t))))
+                ap (λ (j : ℕ). drop j (put_mid at (at + 256 - at) t plane)) next-at
+                ∙ ap (drop (at + 256)) (sym (append_assoc (take at t) plane (drop (at + 256 - at) (drop at t))))
                 ∙ drop_at (take at t ++ plane) (drop (at + 256 - at) (drop at t)) (at + 256) m
                 ∙ ap₂ (λ (n : ℕ) (u : List ℕ). drop n u) (let z : at + 256 - at ≡ 256 = omega arith in z) g.rest
-                ∙ drop-drop 256 at t₀;
+                ∙ drop-drop 256 at t₀ ∙ ap (λ (j : ℕ). drop j t₀) (sym next-at);
             fitted = λ ps l e.
-                plane_put t at plane table-room k.long
+                ap (λ (j : ℕ). take j (put_mid at (at + 256 - at) t plane)) next-at
+                ∙ plane_put t at plane table-room k.long
                 ∙ ap₂ (λ (x y : List ℕ). x ++ y) (g.fitted ps l e) (k.is ps l (part-is ps e))
                 ∙ ap (λ (j : ℕ). planes_below j (fitting ks ps)) (sym (add-one word));
           }

@@ -20,7 +20,7 @@ use Rattle.shift_and_wide.specs.declared.WideMasks.{WideMasks}
 use Rattle.shift_and_wide.specs.Wides.{number, words_of}
 use Rattle.shift_and_wide.proofs.Masks.{number-words}
 use Rattle.rule_parser.specs.declared.Prepared.{Prepared}
-use Rattle.rule_parser.specs.Preparing.{Prepares}
+use Rattle.rule_parser.specs.Preparing.{PreparedRule}
 use Rattle.rule_table.specs.Tables.{row_of, mirror}
 use Rattle.rule_table.proofs.FillLaws.{Every, row-length}
 use Rattle.rule_table.proofs.Encoded.{BytesAlone, rule-bytes, masks_of, EncodesWide, encodes_table, mirror-mask, is-answer, positions_are, few}
@@ -57,7 +57,7 @@ fitting_masks codes sets ps =
     let ks = codes_of codes sets in
     same_masks (ap words_of (fitting-repeats ks ps)) (ap words_of (fitting-optional ks ps)) (fitting-length ks ps)
 
-module _ (flag : ℕ) (rule : List ℕ) (p : Prepared) (hp : Prepares flag rule p) (z : p.number ≡ 0) (codes sets : List ℕ) (bytes : T (all is_byte codes)) where
+module _ (flag : ℕ) (rule : List ℕ) (p : Prepared) (hp : PreparedRule flag rule p) (codes sets : List ℕ) (bytes : T (all is_byte codes)) where
   abbrev ps : List Position
   ps = rule_positions (fold_flag flag) rule
 
@@ -65,7 +65,7 @@ module _ (flag : ℕ) (rule : List ℕ) (p : Prepared) (hp : Prepares flag rule 
   fs = smudged (fold_flag flag) rule codes sets
 
   pub fitted_few : length fs ≤ position_limit
-  fitted_few = omega (arith, fitting-length (codes_of codes sets) ps, few flag rule p hp z)
+  fitted_few = omega (arith, fitting-length (codes_of codes sets) ps, few flag rule p hp)
 
   -- the table that `fill` makes, and the masks of the rule's row of positions
   encodes_row : (reversed : Bool) (table : List ℕ) → Fitted flag rule codes sets reversed table → (m : WideMasks) → m ≡ masks_of (row_of reversed ps) → EncodesWide table m (row_of reversed fs)
@@ -75,15 +75,15 @@ module _ (flag : ℕ) (rule : List ℕ) (p : Prepared) (hp : Prepares flag rule 
 
   -- forwards: `prepare`'s masks
   pub encodes_forwards : (table : List ℕ) → Fitted flag rule codes sets false table → EncodesWide table (record { repeats = p.repeats; optional = p.optional; top = p.positions }) fs
-  encodes_forwards table t = encodes_row false table t _ (ap (λ (y : Prepared). record { repeats = y.repeats; optional = y.optional; top = y.positions }) (is-answer flag rule p hp z))
+  encodes_forwards table t = encodes_row false table t _ (ap (λ (y : Prepared). record { repeats = y.repeats; optional = y.optional; top = y.positions }) (is-answer flag rule p hp))
 
   -- reversed: the mirrored masks
   pub encodes_reversed : (table : List ℕ) → Fitted flag rule codes sets true table → (R A : Wide) → R ≡ words_of (mirror (number p.repeats) p.positions) → A ≡ words_of (mirror (number p.optional) p.positions)
       → EncodesWide table (record { repeats = R; optional = A; top = p.positions }) (reverse fs)
   encodes_reversed table t R A er ea = encodes_row true table t _
-      (same_masks (er ∙ mirrored_mask (λ q. q.repeats) p.repeats (ap (λ (y : Prepared). y.repeats) (is-answer flag rule p hp z)))
-      (ea ∙ mirrored_mask (λ q. q.optional) p.optional (ap (λ (y : Prepared). y.optional) (is-answer flag rule p hp z)))
-      (positions_are flag rule p hp z ∙ sym (length-reverse ps)))
+      (same_masks (er ∙ mirrored_mask (λ q. q.repeats) p.repeats (ap (λ (y : Prepared). y.repeats) (is-answer flag rule p hp)))
+      (ea ∙ mirrored_mask (λ q. q.optional) p.optional (ap (λ (y : Prepared). y.optional) (is-answer flag rule p hp)))
+      (positions_are flag rule p hp ∙ sym (length-reverse ps)))
     where
       mirrored_mask : (f : Position → Bool) (x : Wide) → x ≡ words_of (mask f ps) → words_of (mirror (number x) p.positions) ≡ words_of (mask f (reverse ps))
-      mirrored_mask f x e = ap words_of (ap₂ mirror (ap number e ∙ number-words (mask f ps) (mask_fits 256 f ps (omega (arith, few flag rule p hp z)))) (positions_are flag rule p hp z) ∙ mirror-mask f ps)
+      mirrored_mask f x e = ap words_of (ap₂ mirror (ap number e ∙ number-words (mask f ps) (mask_fits 256 f ps (omega (arith, few flag rule p hp)))) (positions_are flag rule p hp) ∙ mirror-mask f ps)

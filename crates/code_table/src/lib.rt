@@ -7,19 +7,18 @@ ghost use Rattle.model.specs.Codes.{set_bytes, in_set};
 ghost use Rattle.code_table.specs.CodeTables.{union_below, PlaneFittable, PlaneFits, WordFittable, WordFits, TableFittable, TableFits};
 ghost use Rattle.code_table.specs.CodeTables.{PlaneReadable, PlaneFitted, Readable, Fitted};
 
+use limits::SET_BYTES;
+
 // The union of the entries of a set's bytes.
 fn union_of(plane: &[u64], set: &[u8]) -> u64
     requires plane_len { length plane.now ≡ 256 }
     requires set_len { length set.now ≡ set_bytes }
     ensures { result ≡ union_below (in_set set.now) plane.now 256 }
 {
-    let mut union = 0u64;
-    let mut x = 0usize;
-    while x < 256 {
-        let i = x;
-        x += 1;
-        if code_list::in_set(set, i as u8) {
-            union = union | plane[i];
+    let mut union = 0;
+    for (x, entry) in plane.iter().enumerate() {
+        if code_list::in_set(set, x as u8) {
+            union |= *entry;
         }
     }
     union
@@ -31,15 +30,9 @@ fn fit_plane(codes: &[u8], sets: &[u8], plane: &mut [u64])
     requires { PlaneFittable codes.now sets.now plane.old }
     ensures { PlaneFits codes.now sets.now plane.old plane.new }
 {
-    let mut k = 0;
-    let mut at = 0;
-    while k < codes.len() {
-        let end = at + limits::SET_BYTES;
-        let union = union_of(plane, &sets[at..end]);
-        let c = byte_search::byte_index(codes[k]);
-        plane[c] = union;
-        at = end;
-        k += 1;
+    for (code, set) in codes.iter().zip(sets.chunks_exact(SET_BYTES)) {
+        let union = union_of(plane, set);
+        plane[usize::from(*code)] = union;
     }
 }
 
@@ -58,13 +51,9 @@ fn fit(codes: &[u8], sets: &[u8], total: u32, table: &mut [u64])
     requires { TableFittable codes.now sets.now table.old }
     ensures { TableFits codes.now sets.now total table.old table.new }
 {
-    let mut word = 0u32;
-    let mut at = 0;
-    while word < 4 {
-        let end = at + 256;
-        fit_word(codes, sets, total, &mut table[at..end], word);
-        at = end;
-        word += 1;
+    for word in 0..4u32 {
+        let at = word as usize * 256;
+        fit_word(codes, sets, total, &mut table[at..at + 256], word);
     }
 }
 

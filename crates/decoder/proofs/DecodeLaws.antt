@@ -7,13 +7,14 @@ use native.Mathlib.Omega.{arith}
 use lib.ListN.{length, drop, length-append, length-drop}
 use lib.Seq.{sets}
 use borrow.Author.Tests.{lt-ltb, le-ltb}
-use Rattle.model.specs.RefusalNumbers.{too_short, too_much}
 use Rattle.model.specs.References.{form_limit, held_tail, let_out}
 use Rattle.model.specs.NumberedAnswers.{text_limit}
 use Rattle.model.proofs.LentLists.{sets-append, sets-overwrite}
 use Rattle.model.proofs.Decoding.{finish-text}
 use Rattle.answers.specs.declared.Answer.{Answer}
-use Rattle.answers.specs.Answers.{refusing, counting}
+use Rattle.answers.specs.declared.Refusal.TheVariants.{TooShort, TooMuch}
+use Rattle.answers.specs.declared.Refused.{Refused}
+use Rattle.answers.specs.Answers.{number_of, refused_at, refusing, counting}
 use Rattle.piece_decoder.specs.declared.TokensDecoded.{TokensDecoded}
 use Rattle.piece_decoder.specs.Chunks.{TokensDecodedIs}
 use Rattle.text_writer.specs.Writing.{TailCopied}
@@ -51,9 +52,10 @@ decodes-all raw out room t out₁ x r out' y =
 -- ---- `decode`
 
 module _ (raw out : List ℕ) where
-  pub too_long : text_limit < length raw → (r : Answer) → r ≡ refusing too_much 0 → DecodeIs raw out r out
+  pub too_long : text_limit < length raw → (x : Refused) → x ≡ refused_at TooMuch 0 → (r : Answer) → r ≡ refusing (number_of x.refusal) x.place → DecodeIs raw out r out
   unfolding decode_answer decode_buffer
-  too_long h r e =
+  too_long h x ex r q =
+      let e : r ≡ refusing (number_of TooMuch) 0 = q ∙ ap (λ (y : Refused). refusing (number_of y.refusal) y.place) ex in
       record {
         answers = e ∙ rw (lt-ltb text_limit (length raw) h);
         few = omega (arith, ap (λ (a : Answer). a.count) e);
@@ -61,9 +63,10 @@ module _ (raw out : List ℕ) where
       }
 
   module _ (h : length raw ≤ text_limit) where
-    pub too_short_lem : length out < length raw → (r : Answer) → r ≡ refusing too_short 0 → DecodeIs raw out r out
+    pub too_short_lem : length out < length raw → (x : Refused) → x ≡ refused_at TooShort 0 → (r : Answer) → r ≡ refusing (number_of x.refusal) x.place → DecodeIs raw out r out
     unfolding decode_answer decode_buffer
-    too_short_lem k r e =
+    too_short_lem k x ex r q =
+        let e : r ≡ refusing (number_of TooShort) 0 = q ∙ ap (λ (y : Refused). refusing (number_of y.refusal) y.place) ex in
         record {
           answers = e ∙ rw (le-ltb text_limit (length raw) h, lt-ltb (length out) (length raw) k);
           few = omega (arith, ap (λ (a : Answer). a.count) e);

@@ -4,7 +4,7 @@
 ghost use Rattle.std.specs.Prelude.{◌≤◌, length};
 ghost use Rattle.decoder.specs.Decoder.{DecodedAll, DecodeIs};
 
-use answers::Answer;
+use answers::{Answer, Refusal};
 
 // Decodes all of `raw` to the front of `out`, and returns how many bytes it gives: what it lets out, and
 // then what a piece would hold back, since nothing follows.
@@ -22,11 +22,11 @@ pub fn decode(raw: &[u8], out: &mut [u8]) -> Answer
     ensures { DecodeIs raw.now out.old result out.new }
 {
     if raw.len() > limits::TEXT_LIMIT {
-        return answers::refused(answers::TOO_MUCH, 0);
+        return Answer::from(Refusal::TooMuch.at(0));
     }
     if out.len() < raw.len() {
-        return answers::refused(answers::TOO_SHORT, 0);
+        return Answer::from(Refusal::TooShort.at(0));
     }
     let n = decode_all(raw, out);
-    answers::counted(n as u32, 0)
+    Answer::counted(n as u32, 0)
 }

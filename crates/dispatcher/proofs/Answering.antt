@@ -2,20 +2,23 @@
 use mathlib.Core.Path.{◌≡◌, refl, sym, ap, ◌∙◌}
 use mathlib.Core.Bool.{Bool, true, false, or-true}
 use mathlib.Core.Logic.{◌⊎◌, inl, inr}
-use Prim.Native.Nat.{ℕ, zero, suc, ◌+◌, ◌-◌, ◌*◌, ◌/◌, ◌%◌, ◌^◌, ◌≤◌, ◌<◌}
+use Prim.Native.Nat.{ℕ, zero, suc, ◌+◌, ◌-◌, ◌*◌, ◌/◌, ◌%◌, ◌^◌, ◌≤◌, ◌<◌, min}
 use native.Mathlib.Omega.{arith}
 use native.Mathlib.Nat.{mod-eq_of_lt}
+use native.Mathlib.Decide.{dec_le}
 use lib.Dec.{T, leb, ltb, leb→le, ltb→lt}
 use lib.Pow.{pow_mono}
 use lib.Count.{count_trailing_zeros, trailing_le}
 use borrow.Author.Tests.{lt-ltb, le-ltb, eq-eqb, ne_eqb}
+use Rattle.model.proofs.Truth.{T-to, T_true}
+use Rattle.std.specs.Prelude.{Option, None, Some, MatchOption}
+use Rattle.std.proofs.lemmas.Option.{MatchOption-at_none, MatchOption-at_some}
 use Rattle.model.specs.WindowSearch.{least_from}
 use Rattle.model.specs.Turns.{feeds, top_feed, Dispatcher, last_served, going_round, served, way_to_next, turn_by, turn}
-use Rattle.model.proofs.Truth.{T-to, T_true}
 use Rattle.model.proofs.Windows.{least-is}
 use Rattle.shift_and.proofs.Digits.{none-bit}
 use Rattle.answers.specs.declared.Offered.{Offered}
-use Rattle.dispatcher.specs.Dispatching.{handed, OfferIs, turn_answer, TurnIs, as_handed, LastIs, FirstIs, Somebody, NextIs}
+use Rattle.dispatcher.specs.Dispatching.{handed, OfferIs, turn_answer, TurnIs, as_handed, FirstIs, NextIs}
 use Rattle.dispatcher.proofs.Flags.{flag_at, flag_bit, set-fits, set-within, low_flag}
 use Rattle.dispatcher.proofs.Rounds.{way_is}
 
@@ -44,14 +47,11 @@ module _ (waiting last feed : ℕ) where
 
 -- ---- the one last served
 
-pub last-above : {last : ℕ} → 7 < last → LastIs last 7
-last-above {last} h = record { is = rw (lt-ltb 7 last h); small = omega arith }
-
-pub last-kept : {last : ℕ} → last ≤ 7 → LastIs last last
-last-kept {last} h = record { is = rw (le-ltb 7 last h); small = h }
-
-pub first-is : {last l : ℕ} → LastIs last l → FirstIs last (l + 1)
-first-is {last} {l} x = let s = x.small in record { is = (let e : l + 1 ≡ suc l = omega arith in e) ∙ ap suc x.is; small = omega arith }
+pub first-is : (last l : ℕ) → l ≡ min last 7 → FirstIs last (l + 1)
+first-is last l e = elim (dec_le last 7) [
+  | yes h ↦ let m : l ≡ last = omega (arith, e) in record { is = rw (le-ltb 7 last h) (let z : l + 1 ≡ suc last = omega arith in z); small = omega arith }
+  | no n ↦ let h : 7 < last = omega arith in let m : l ≡ 7 = omega (arith, e) in record { is = rw (lt-ltb 7 last h) (let z : l + 1 ≡ 8 = omega arith in z); small = omega arith }
+]
 
 -- ---- the next waiting feed
 
@@ -59,13 +59,14 @@ module _ {last from : ℕ} (x : FirstIs last from) where
   pub place-fits : (n : ℕ) → from + count_trailing_zeros 32 n < 2 ^ 32
   place-fits n = let s = x.small in let t = trailing_le 32 n in omega arith
 
-  pub next-is : {low : ℕ} → Somebody low → NextIs low last ((from + count_trailing_zeros 32 (low * 257 / 2 ^ from)) % 8)
-  next-is {low} b =
-      let n : low ≡ 0 → ⊥ = b.some in
+  pub next-is : (waiting : ℕ) → (waiting % 256 ≡ 0 → ⊥) → NextIs (waiting % 256) last ((from + count_trailing_zeros 32 (waiting % 256 * 257 / 2 ^ from)) % 8)
+  next-is waiting n =
+      let low = waiting % 256 in
+      let b : low < 256 = omega arith in
       let l = last_served (handed 0 last) in
       let s = x.small in
       let f = x.is in
-      let w : way_to_next (handed low last) ≡ suc (count_trailing_zeros 32 (low * 257 / 2 ^ suc l)) = way_is low l (omega arith) b.byte (omega arith) in
+      let w : way_to_next (handed low last) ≡ suc (count_trailing_zeros 32 (low * 257 / 2 ^ suc l)) = way_is low l (omega arith) b (omega arith) in
       let t = count_trailing_zeros 32 (low * 257 / 2 ^ suc l) in
       record {
         found = omega arith;
@@ -107,16 +108,19 @@ pub turn-finds : (d : Dispatcher) (i : ℕ) → way_to_next d ≡ i → 1 ≤ i 
 turn-finds d zero e h = absurd (omega arith)
 turn-finds d (suc i) e h = ap (turn_by d) e
 
-module _ (waiting last : ℕ) where
-  pub turn-nobody : waiting % 256 ≡ 0 → TurnIs waiting last (record { served = 0; feed = 0; waiting = waiting; last = last })
-  turn-nobody e =
-      let w : way_to_next (handed waiting last) ≡ 0 = sym (way_low waiting last) ∙ ap (λ (n : ℕ). way_to_next (handed n last)) e ∙ none-waits last in
-      sym (ap (λ (i : ℕ). turn_answer (handed waiting last) (turn_by (handed waiting last) i)) w)
+pub turn-nobody : (waiting last : ℕ) → waiting % 256 ≡ 0 → TurnIs waiting last (record { served = 0; feed = 0; waiting = waiting; last = last })
+turn-nobody waiting last e =
+    let w : way_to_next (handed waiting last) ≡ 0 = sym (way_low waiting last) ∙ ap (λ (n : ℕ). way_to_next (handed n last)) e ∙ none-waits last in
+    sym (ap (λ (i : ℕ). turn_answer (handed waiting last) (turn_by (handed waiting last) i)) w)
 
-  pub somebody : (waiting % 256 ≡ 0 → ⊥) → Somebody (waiting % 256)
-  somebody n = record { some = n; byte = omega arith }
+module _ (waiting last : ℕ) (o : Option ℕ) (found : MatchOption o (waiting % 256 ≡ 0) (NextIs (waiting % 256) last)) where
+  pub turn-none : o ≡ None → TurnIs waiting last (record { served = 0; feed = 0; waiting = waiting; last = last })
+  turn-none d = turn-nobody waiting last (MatchOption-at_none (waiting % 256 ≡ 0) (NextIs (waiting % 256) last) d found)
 
-  module _ (feed : ℕ) (x : NextIs (waiting % 256) last feed) where
+  module _ (feed : ℕ) (d : o ≡ Some feed) where
+    x : NextIs (waiting % 256) last feed
+    x = MatchOption-at_some (waiting % 256 ≡ 0) (NextIs (waiting % 256) last) feed d found
+
     way : way_to_next (handed (waiting % 256) last) ≡ way_to_next (handed waiting last)
     way = way_low waiting last
 

@@ -1,7 +1,7 @@
 -- What an offer and a turn answer a host that hands over the dispatcher's state as two numbers. Assumes nothing.
-use Rattle.std.specs.Prelude.{◌≡◌, ℕ, suc, ◌≤◌, ◌<◌}
+use Rattle.std.specs.Prelude.{◌≡◌, ℕ, suc, ◌≤◌}
 use Rattle.model.specs.RefusalNumbers.{offer_fault}
-use Rattle.model.specs.Turns.{feeds, top_feed, Dispatcher, OfferAnswer, turns_down, takes, offer, TurnAnswer, nobody, serves, going_round, last_served, way_to_next, turn}
+use Rattle.model.specs.Turns.{feeds, Dispatcher, OfferAnswer, turns_down, takes, offer, TurnAnswer, nobody, serves, going_round, last_served, way_to_next, turn}
 use Rattle.answers.specs.declared.Offered.{Offered}
 use Rattle.answers.specs.declared.Served.{Served}
 
@@ -29,20 +29,10 @@ TurnIs waiting last r = r ≡ turn_answer (handed waiting last) (turn (handed wa
 abbrev pub as_handed : (waiting last : ℕ) → Offered
 as_handed waiting last = offer_answer (handed waiting last) (turns_down offer_fault 0)
 
--- "a last-served number above 7 reads as 7"
-pub record LastIs (last r : ℕ) : Type 0 where
-  pub is : r ≡ last_served (handed 0 last)
-  pub small : r ≤ top_feed
-
--- "the next .. after the one last served"
+-- "the next .. after the one last served", where "a last-served number above 7 reads as 7"
 pub record FirstIs (last r : ℕ) : Type 0 where
   pub is : r ≡ suc (last_served (handed 0 last))
   pub small : r ≤ feeds
-
--- Some of the feeds 0 to 7 waits.
-pub record Somebody (low : ℕ) : Type 0 where
-  pub some : low ≡ 0 → ⊥
-  pub byte : low < 256
 
 -- The feed that has its turn, and that it is found among them.
 pub record NextIs (low last feed : ℕ) : Type 0 where

@@ -2,10 +2,10 @@
 // (bits above 7 are kept and say nothing), and the one last served. The bytes are the host's.
 #![tactic(auto)]
 
-ghost use Rattle.std.specs.Prelude.{◌≡◌, ◌≤◌, ◌^◌};
-ghost use Rattle.dispatcher.specs.Dispatching.{OfferIs, TurnIs, LastIs, FirstIs, Somebody, NextIs, as_handed};
+ghost use Rattle.std.specs.Prelude.{◌≡◌, ◌≤◌, ◌%◌, ◌^◌, MatchOption};
+ghost use Rattle.dispatcher.specs.Dispatching.{OfferIs, TurnIs, FirstIs, NextIs, as_handed};
 
-use answers::{OFFER_FAULT, Offered, Served};
+use answers::{Offered, Refusal, Served};
 use limits::{FEEDS, TOP_FEED};
 
 // 2 to the number of feeds: the flags of feeds 0 to 7 are below it.
@@ -27,10 +27,10 @@ fn turned_down(waiting: u32, last: u32) -> Offered
     ensures { result ≡ as_handed waiting last }
 {
     Offered {
-        number: OFFER_FAULT,
+        number: Refusal::OfferFault.number(),
         place: 0,
-        waiting: waiting,
-        last: last,
+        waiting,
+        last,
     }
 }
 
@@ -45,66 +45,54 @@ pub fn offer(waiting: u32, last: u32, feed: u32) -> Offered
     if above % 2 == 1 {
         return turned_down(waiting, last);
     }
-    let bit = flag(feed);
-    let now = waiting + bit;
+    let now = waiting + flag(feed);
     Offered {
         number: 0,
         place: 0,
         waiting: now,
-        last: last,
+        last,
     }
 }
 
-// "a last-served number above 7 reads as 7"
-fn last_served(last: u32) -> u32
-    ensures { LastIs last result }
-{
-    if last > TOP_FEED {
-        return TOP_FEED;
-    }
-    last
-}
-
-// Where a turn begins to look: 1 to 8, and 8 stands for feed 0.
+// Where a turn begins to look: 1 to 8, and 8 stands for feed 0. "a last-served number above 7 reads as 7"
 fn first_after(last: u32) -> u32
     ensures { FirstIs last result }
 {
-    last_served(last) + 1
+    last.min(TOP_FEED) + 1
 }
 
-// The next waiting feed. Beside themselves, and shifted down, the flags stand in the order in which the feeds are looked at, going round.
-fn next_feed(low: u32, last: u32) -> u32
-    requires { Somebody low }
-    ensures { NextIs low last result }
+// The next waiting feed, if one waits. Beside themselves, and shifted down, the flags stand in the order in which the feeds are looked at,
+// going round.
+fn next_feed(waiting: u32, last: u32) -> Option<u32>
+    ensures { MatchOption result (waiting % 256 ≡ 0) (NextIs (waiting % 256) last) }
 {
+    let low = waiting % FLAGS;
+    if low == 0 {
+        return None;
+    }
     let from = first_after(last);
     let twice = low * TWICE;
     let round = twice >> from;
-    let way = u32::trailing_zeros(round);
-    let place = from + way;
-    place % FEEDS
+    let place = from + round.trailing_zeros();
+    Some(place % FEEDS)
 }
 
 // A turn: it names the next waiting feed after the one last served.
 pub fn turn(waiting: u32, last: u32) -> Served
     ensures { TurnIs waiting last result }
 {
-    let low = waiting % FLAGS;
-    if low == 0 {
-        return Served {
+    match next_feed(waiting, last) {
+        None => Served {
             served: 0,
             feed: 0,
-            waiting: waiting,
-            last: last,
-        };
-    }
-    let feed = next_feed(low, last);
-    let bit = flag(feed);
-    let now = waiting - bit;
-    Served {
-        served: 1,
-        feed: feed,
-        waiting: now,
-        last: feed,
+            waiting,
+            last,
+        },
+        Some(feed) => Served {
+            served: 1,
+            feed,
+            waiting: waiting - flag(feed),
+            last: feed,
+        },
     }
 }

@@ -2,7 +2,7 @@
 use mathlib.Core.Path.{◌≡◌, refl, sym, ap, ap₂, ◌∙◌}
 use mathlib.Core.Bool.{Bool, cond}
 use mathlib.Core.List.{List, [], ◌∷◌, ◌++◌}
-use Prim.Native.Nat.{ℕ, zero, suc, pred, ◌+◌, ◌-◌, ◌*◌, ◌≤◌, ◌<◌}
+use Prim.Native.Nat.{ℕ, max, zero, suc, pred, ◌+◌, ◌-◌, ◌*◌, ◌≤◌, ◌<◌}
 use native.Mathlib.Omega.{arith}
 use native.Mathlib.Decide.{dec_le}
 use lib.Dec.{ltb}
@@ -50,12 +50,13 @@ larger_right a b h = go (dec_le b a)
     go (yes l) = let e : a ≡ b = omega arith in larger_left a b l ∙ e
     go (no l) = let k : a < b = omega arith in ap (λ (t : Bool). cond t b a) (lt-ltb a b k)
 
--- `larger`
-pub larger_second : (a b : ℕ) → a < b → b ≡ larger_of a b
-larger_second a b h = sym (larger_right a b (omega arith))
-
-pub larger_first : (a b : ℕ) → b ≤ a → a ≡ larger_of a b
-larger_first a b h = sym (larger_left a b h)
+-- the model's word for the larger of two numbers
+pub larger-max : (a b : ℕ) → max a b ≡ larger_of a b
+larger-max a b = go (dec_le b a)
+  where
+    go : Dec (b ≤ a) → max a b ≡ larger_of a b
+    go (yes l) = omega (arith, larger_left a b l)
+    go (no l) = let h : a ≤ b = omega arith in omega (arith, larger_right a b h)
 
 -- ---- the marks of tokens
 

@@ -7,14 +7,10 @@ use lib.ListN.{length, take, drop, get_or, set, length-append, take-append-drop,
 use lib.Seq.{sets-eq, length-take-le, get_or-take, take-suc, drop-cons, set_at}
 use Rattle.model.specs.RawPlaces.{placed, pair_numbers, flat}
 use Rattle.model.proofs.Places.{placed-length, flat-length}
-use Rattle.entry_list.specs.Pairing.{even_place, PairIs, Paired, Near, EvenFits}
+use Rattle.entry_list.specs.Pairing.{even_place, PairIs, Paired, EvenFits}
 
 pub pairs-length : (place : ℕ → ℕ) (es : List ℕ) → length (flat (placed place es)) ≡ length es * pair_numbers
 pairs-length place es = omega (arith, flat-length (placed place es), placed-length place es)
-
--- the number before j, as the loops have it
-pub before_last : (j : ℕ) → 0 < j → j - 1 < j
-before_last j h = omega arith
 
 pub before-next : (j : ℕ) → 0 < j → suc (j - 1) ≡ j
 before-next j h = omega arith
@@ -108,9 +104,6 @@ module _ (at raw k : ℕ) (ends₀ : List ℕ) where
   even-begun f = begun (even_place at raw) k ends₀ f.room
 
   module _ (j : ℕ) (ends : List ℕ) (w : Spreading (even_place at raw) k ends₀ j ends) where
-    pub even-near : EvenFits at raw k ends₀ → (i : ℕ) → i < j → Near at raw (get_or ends i 0)
-    even-near f i h = let b = w.within in subst (Near at raw) (sym (stands (even_place at raw) k ends₀ j ends w i h)) (f.all i (omega arith))
-
     pub even-turn : (i : ℕ) → suc i ≡ j → (v : ℕ) → v ≡ even_place at raw (get_or ends i 0) → (ends' : List ℕ) → PairIs i (get_or ends i 0) v ends ends' → Spreading (even_place at raw) k ends₀ i ends'
     even-turn = turn (even_place at raw) k ends₀ j ends w
 

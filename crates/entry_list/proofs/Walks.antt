@@ -1,15 +1,15 @@
 -- Ends and marks that are walked back together. On plain values. Assumes nothing.
 use mathlib.Core.Path.{◌≡◌, refl, sym, ap, ◌∙◌}
 use mathlib.Core.List.{List}
-use Prim.Native.Nat.{ℕ, zero, suc, ◌+◌, ◌-◌, ◌*◌, ◌^◌, ◌≤◌, ◌<◌}
+use Prim.Native.Nat.{ℕ, max, zero, suc, ◌+◌, ◌-◌, ◌*◌, ◌^◌, ◌≤◌, ◌<◌}
 use native.Mathlib.Omega.{arith}
-use lib.ListN.{length, get_or}
+use lib.ListN.{get_or}
 use mir.Val.{Fits}
 use mir.Syntax.{w32}
-use Rattle.entry_list.specs.Marks.{mark_numbers, start_of, after_of, ahead_of, larger_of, marked_place, SkipIs, MarkFits}
+use Rattle.entry_list.specs.Marks.{mark_numbers, after_of, ahead_of, larger_of, marked_place, SkipIs, MarkFits}
 use Rattle.entry_list.specs.Pairing.{uneven_place, PairIs, Paired, UnevenFits}
-use Rattle.entry_list.proofs.Spread.{Spreading, begun, stands, turn, over}
-use Rattle.entry_list.proofs.MarkLaws.{place_none, place-before, place-past}
+use Rattle.entry_list.proofs.Spread.{Spreading, stands, turn, over}
+use Rattle.entry_list.proofs.MarkLaws.{larger-max, place_none, place-before, place-past}
 
 -- ---- `skip_marks`
 
@@ -18,9 +18,6 @@ pub record Skipping (marks : List ℕ) (m q i : ℕ) : Type 0 where
   pub same : (x : ℕ) → x ≤ q → marked_place marks m x ≡ marked_place marks i x
 
 module _ (marks : List ℕ) (m q : ℕ) where
-  pub skipping : Skipping marks m q m
-  skipping = record { few = omega arith; same = λ x h. refl }
-
   module _ (i : ℕ) (g : Skipping marks m q i) where
     pub skip_turn : 0 < i → (s : ℕ) → s ≡ get_or marks (mark_numbers * (i - 1)) 0 → q ≤ s → Skipping marks m q (i - 1)
     skip_turn h s e l =
@@ -28,20 +25,13 @@ module _ (marks : List ℕ) (m q : ℕ) where
         let f = g.few in
         record { few = omega arith; same = λ x a. g.same x a ∙ ap (λ (n : ℕ). marked_place marks n x) (sym k) ∙ place-before marks (i - 1) x (omega arith) }
 
-    pub skip_stops : 0 < i → (s : ℕ) → s ≡ get_or marks (mark_numbers * (i - 1)) 0 → s < q → SkipIs marks m q i
-    skip_stops h s e l =
-        record { few = g.few; same = g.same; starts = λ n k. let z : n ≡ i - 1 = omega arith in omega (arith, ap (λ (n : ℕ). start_of marks n) z) }
-
-    pub skip_over : i ≤ 0 → SkipIs marks m q i
-    skip_over h = record { few = g.few; same = g.same; starts = λ n k. absurd (omega arith) }
-
 -- ---- `marked_place`
 
 module _ (marks : List ℕ) (m q : ℕ) (f : MarkFits marks m q) where
   pub place-alone : m ≡ 0 → q ≡ marked_place marks m q
   place-alone e = sym (ap (λ (n : ℕ). marked_place marks n q) e ∙ place_none marks q)
 
-  module _ (some : m ≡ 0 → ⊥) (after ahead last : ℕ) (ea : after ≡ get_or marks (mark_numbers * (m - 1) + 1) 0) (eh : ahead ≡ get_or marks (mark_numbers * (m - 1) + 2) 0) (el : last ≡ larger_of q after) where
+  module _ (some : m ≡ 0 → ⊥) (after ahead last : ℕ) (ea : after ≡ get_or marks (mark_numbers * (m - 1) + 1) 0) (eh : ahead ≡ get_or marks (mark_numbers * (m - 1) + 2) 0) (el : last ≡ max q after) where
     positive : 0 < m
     positive = pos m some
       where
@@ -54,6 +44,7 @@ module _ (marks : List ℕ) (m q : ℕ) (f : MarkFits marks m q) where
         let p = positive in
         let k : suc (m - 1) ≡ m = omega arith in
         let r : marked_place marks (suc (m - 1)) q ≡ larger_of q (after_of marks (m - 1)) + ahead_of marks (m - 1) = place-past marks (m - 1) q (f.starts (m - 1) k) in
+        let m-is = larger-max q after in
         let e : larger_of q after ≡ larger_of q (after_of marks (m - 1)) = ap (larger_of q) ea in
         let z : marked_place marks (suc (m - 1)) q ≡ marked_place marks m q = ap (λ (n : ℕ). marked_place marks n q) k in
         omega arith
@@ -69,22 +60,13 @@ pub record Walking (at raw : ℕ) (marks : List ℕ) (count k : ℕ) (ends₀ : 
   pub same : (i : ℕ) → suc i ≡ j → (x : ℕ) → x ≤ get_or ends₀ i 0 - at → marked_place marks count x ≡ marked_place marks m x
 
 module _ (at raw : ℕ) (marks : List ℕ) (count k : ℕ) (ends₀ : List ℕ) (f : UnevenFits at raw marks count k ends₀) where
-  pub walking : Walking at raw marks count k ends₀ k count ends₀
-  walking = record { spread = begun (uneven_place at raw marks count) k ends₀ f.room; few = omega arith; same = λ i e x h. refl }
-
   module _ (j m : ℕ) (ends : List ℕ) (w : Walking at raw marks count k ends₀ j m ends) where
-    pub walk_room : mark_numbers * m ≤ length marks
-    walk_room = let a = w.few in let b = f.inside in omega arith
-
     module _ (i : ℕ) (next : suc i ≡ j) where
       here : get_or ends i 0 ≡ get_or ends₀ i 0
       here = stands (uneven_place at raw marks count) k ends₀ j ends w.spread i (omega arith)
 
       inside : i < k
       inside = let a = w.spread.within in omega arith
-
-      pub walk_past : at ≤ get_or ends i 0
-      walk_past = let a = f.past i inside in omega (arith, here)
 
       module _ (q : ℕ) (eq : q ≡ get_or ends i 0 - at) (r : ℕ) (s : SkipIs marks m q r) where
         -- by the marks that are left as by all of them
@@ -97,13 +79,7 @@ module _ (at raw : ℕ) (marks : List ℕ) (count k : ℕ) (ends₀ : List ℕ) 
             let z : get_or ends₀ i 0 - at ≡ q = omega (arith, here) in
             omega (arith, by_all q (omega arith), ap (marked_place marks count) z)
 
-        pub walk_fits : MarkFits marks r q
-        walk_fits = let a = s.few in let b = walk_room in let c = small in record { room = omega arith; starts = s.starts; small = omega arith }
-
         module _ (p : ℕ) (ep : p ≡ marked_place marks r q) where
-          pub walk_small : Fits w32 (raw + p)
-          walk_small = let a = small in omega arith
-
           pub walk_turn : (ends' : List ℕ) → PairIs i (get_or ends i 0) (raw + p) ends ends' → Walking at raw marks count k ends₀ i r ends'
           walk_turn ends' x =
               let a = w.few in

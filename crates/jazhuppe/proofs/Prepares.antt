@@ -1,19 +1,17 @@
 -- What preparing a rule answers. On plain values. Assumes nothing.
-use mathlib.Core.Path.{◌≡◌}
+use mathlib.Core.Path.{◌≡◌, sym, ap, ◌∙◌}
 use mathlib.Core.List.{List}
 use Prim.Native.Nat.{ℕ}
-use Rattle.model.specs.RuleText.{fold_flag}
-use Rattle.model.specs.NumberedAnswers.{Parsed, refused, accepted, parse}
+use Rattle.model.specs.NumberedAnswers.{Parsed}
+use Rattle.answers.specs.declared.Refused.{Refused}
+use Rattle.answers.specs.declared.Opened.{Opened}
+use Rattle.answers.specs.Answers.{number_of, refusing_rule, accepting_rule}
 use Rattle.rule_parser.specs.declared.Prepared.{Prepared}
-use Rattle.rule_parser.specs.Preparing.{prepared_by, prepared, Prepares}
+use Rattle.rule_parser.specs.Preparing.{PreparedRule, RuleRefused}
 use Rattle.jazhuppe.specs.Preparing.{prepare_answer, PrepareIs}
 
-by_rule : (flag : ℕ) (x : Parsed) (p : Prepared) → p ≡ prepared_by (fold_flag flag) x
-    → record { number = p.number; place = p.place; positions = p.positions; shortest = p.shortest } ≡ prepare_answer flag x
-by_rule flag (refused n q) p e = rw e
-by_rule flag (accepted es) p e = rw e
+pub rule_accepted : (flag : ℕ) (rule : List ℕ) (p : Prepared) → PreparedRule flag rule p → (r : Opened) → r ≡ accepting_rule p.positions p.shortest → PrepareIs flag rule r
+rule_accepted flag rule p h r e = e ∙ ap (λ (y : Prepared). accepting_rule y.positions y.shortest) h.is ∙ sym (ap (λ (x : Parsed). prepare_answer flag x) h.parses)
 
-pub prepare_answers : {flag : ℕ} {rule : List ℕ} {p : Prepared} → Prepares flag rule p
-    → PrepareIs flag rule (record { number = p.number; place = p.place; positions = p.positions; shortest = p.shortest })
-unfolding prepared
-prepare_answers {flag} {rule} {p} hp = by_rule flag (parse (fold_flag flag) rule) p hp.is
+pub rule_refused : (flag : ℕ) (rule : List ℕ) (x : Refused) → RuleRefused flag rule x → (r : Opened) → r ≡ refusing_rule (number_of x.refusal) x.place → PrepareIs flag rule r
+rule_refused flag rule x h r e = e ∙ sym (ap (λ (x : Parsed). prepare_answer flag x) h.is)

@@ -16,12 +16,9 @@ use answers::{Answer, Covered, Offered, Opened, Served, Span, Text};
 pub fn jazhuppe_prepare(rule: &[u8], fold: u32) -> Opened
     ensures { PrepareIs fold rule.now result }
 {
-    let p = rule_parser::prepare(rule, fold);
-    Opened {
-        number: p.number,
-        place: p.place,
-        positions: p.positions,
-        shortest: p.shortest,
+    match rule_parser::prepare(rule, fold) {
+        Ok(p) => Opened::accepted(p.positions, p.shortest),
+        Err(refused) => Opened::from(refused),
     }
 }
 

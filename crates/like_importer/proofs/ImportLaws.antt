@@ -8,7 +8,8 @@ use lib.Dec.{eqb, ltb}
 use lib.ListN.{length, take, drop, length-append, take-append-drop, drop_of_length-le}
 use lib.Seq.{sets, length-sets}
 use borrow.Author.Tests.{lt-ltb, le-ltb, eq-eqb, ne_eqb}
-use Rattle.model.specs.RefusalNumbers.{rule_empty, rule_long, too_many_positions, admits_empty, too_short, too_much, like_fault}
+use Rattle.std.specs.Prelude.{Option, None, Some, Result}
+use Rattle.std.proofs.lemmas.Result.{MatchResult-weaker}
 use Rattle.model.specs.RuleText.{rule_limit, position_limit}
 use Rattle.model.specs.NumberedAnswers.{text_limit, Parsed, refused, accepted, overwrite, TextAnswer, turns_down, text_buffer}
 use Rattle.model.specs.Like.{LikeItem, LikePattern, misspelt, pattern, add_item, like_from, like, like_text, import_text, import_items, imported}
@@ -16,16 +17,15 @@ use Rattle.model.proofs.LentLists.{sets-append, sets-overwrite}
 use Rattle.rule_spelling.specs.LikeRules.{like_elements, singles, past_place, like_parsed}
 use Rattle.rule_spelling.proofs.LikeRules.{text-append, like_parses}
 use Rattle.answers.specs.declared.Text.{Text}
-use Rattle.answers.specs.Answers.{refusing_text, written_text}
+use Rattle.answers.specs.declared.Refusal.{Refusal}
+use Rattle.answers.specs.declared.Refusal.TheVariants.{RuleEmpty, RuleLong, TooManyPositions, AdmitsEmpty, TooShort, TooMuch, LikeFault}
+use Rattle.answers.specs.declared.Refused.{Refused}
+use Rattle.answers.specs.Answers.{number_of, refused_at, refusing_text, written_text}
 use Rattle.text_writer.specs.Writing.{text_answer}
 use Rattle.text_writer.proofs.WriteLaws.{answered}
 use Rattle.like_importer.specs.declared.Item.{Item}
-use Rattle.like_importer.specs.declared.ItemAnswer.{ItemAnswer}
-use Rattle.like_importer.specs.declared.ItemAnswer.TheVariants.{Misspelt, Got}
 use Rattle.like_importer.specs.declared.Measure.{Measure}
-use Rattle.like_importer.specs.declared.Measured.{Measured}
-use Rattle.like_importer.specs.declared.Measured.TheVariants.{Misspelt as MisspeltAt, Items}
-use Rattle.like_importer.specs.Importing.{spelling, ItemRead, Reads, ReadsItem, Measures, MeasuredBy, MeasuredIs, PutIs, Writable, WrittenIs, Importable, ItemsImported, ImportIs}
+use Rattle.like_importer.specs.Importing.{spelling, ItemRead, Reads, ReadsItem, Measures, MeasuredIs, MisspeltIs, PutIs, Writable, WrittenIs, Importable, ItemsImported, ItemsTried, ImportIs, ImportTried}
 
 -- ---- `write`
 
@@ -60,11 +60,11 @@ module _ (s out₀ : List ℕ) where
         let q : [] ≡ g.left = pattern_inj (sym (ap (like_from false at) d) ∙ g.reads) in
         record { list = λ is e. ap (λ (l : List LikeItem). sets out end (like_text l)) q ∙ g.list is e }
 
-    module _ (a : ItemAnswer) (ha : ReadsItem s at a) where
-      pub write_never : a ≡ Misspelt → WrittenIs s out₀ out
-      write_never e = let b : Reads s at Misspelt = subst (Reads s at) e ha.is in not_misspelt (sym b ∙ g.reads)
+    module _ (a : Option (Item × ℕ)) (ha : ReadsItem s at a) where
+      pub write_never : a ≡ None → WrittenIs s out₀ out
+      write_never e = let b : Reads s at None = subst (Reads s at) e ha.is in not_misspelt (sym b ∙ g.reads)
 
-      module _ (x : Item) (next : ℕ) (e : a ≡ Got x next) where
+      module _ (x : Item) (next : ℕ) (e : a ≡ Some (x, next)) where
         read : ItemRead s at x next
         read = subst (Reads s at) e ha.is
 
@@ -122,15 +122,18 @@ module _ (s : List ℕ) (m : Measure) (out : List ℕ) (h : Importable s m (leng
       answered (import_items (like s)) (import_text (like_text is) p)
       (ap import_items h.reads ∙ ap (import_text (like_text is)) (like_parses false is ∙ q)) out
 
-  pub import_none : m.length ≡ 0 → (t : Text) → t ≡ refusing_text rule_empty 0 → ItemsImported s out t out
-  import_none z t et = by_parsed (refused rule_empty 0) (rw (eq-eqb (length (like_text is)) 0 (sym ms.long ∙ z))) t et out refl
+  refuses : (x : Refusal) (k : ℕ) → like_parsed is ≡ refused (number_of x) k → (e : Refused) → e ≡ refused_at x k → ItemsImported s out (refusing_text (number_of e.refusal) e.place) out
+  refuses x k q e ee = rw ee (by_parsed (refused (number_of x) k) q (refusing_text (number_of x) k) refl out refl)
+
+  pub import_none : m.length ≡ 0 → (e : Refused) → e ≡ refused_at RuleEmpty 0 → ItemsImported s out (refusing_text (number_of e.refusal) e.place) out
+  import_none z = refuses RuleEmpty 0 (rw (eq-eqb (length (like_text is)) 0 (sym ms.long ∙ z)))
 
   module _ (n0 : m.length ≡ 0 → ⊥) where
     some-text : eqb (length (like_text is)) 0 ≡ false
     some-text = ne_eqb (length (like_text is)) 0 (λ z. n0 (ms.long ∙ z))
 
-    pub import_long : rule_limit < m.length → (t : Text) → t ≡ refusing_text rule_long rule_limit → ItemsImported s out t out
-    import_long l t et = by_parsed (refused rule_long rule_limit) (rw (some-text, lt-ltb rule_limit (length (like_text is)) (omega (arith, ms.long)))) t et out refl
+    pub import_long : rule_limit < m.length → (e : Refused) → e ≡ refused_at RuleLong rule_limit → ItemsImported s out (refusing_text (number_of e.refusal) e.place) out
+    import_long l = refuses RuleLong rule_limit (rw (some-text, lt-ltb rule_limit (length (like_text is)) (omega (arith, ms.long))))
 
     module _ (l : m.length ≤ rule_limit) where
       short-text : ltb rule_limit (length (like_text is)) ≡ false
@@ -139,10 +142,8 @@ module _ (s : List ℕ) (m : Measure) (out : List ℕ) (h : Importable s m (leng
       pub past-small : m.past < 2 ^ 32
       past-small = omega (arith, ms.past, ms.long, part-short position_limit is)
 
-      pub import_many : position_limit < m.items → (t : Text) → t ≡ refusing_text too_many_positions m.past → ItemsImported s out t out
-      import_many k t et =
-          by_parsed (refused too_many_positions (past_place position_limit is)) (rw (some-text, short-text, lt-ltb position_limit (length is) (omega (arith, ms.items))))
-          t (et ∙ ap (refusing_text too_many_positions) ms.past) out refl
+      pub import_many : position_limit < m.items → (e : Refused) → e ≡ refused_at TooManyPositions m.past → ItemsImported s out (refusing_text (number_of e.refusal) e.place) out
+      import_many k = refuses TooManyPositions m.past (rw (some-text, short-text, lt-ltb position_limit (length is) (omega (arith, ms.items))) (ap (refused (number_of TooManyPositions)) (sym ms.past)))
 
       module _ (k : m.items ≤ position_limit) where
         few-items : ltb position_limit (length is) ≡ false
@@ -156,18 +157,16 @@ module _ (s : List ℕ) (m : Measure) (out : List ℕ) (h : Importable s m (leng
             twice true = refl
             twice false = refl
 
-        pub import_empty : not m.some ≡ true → (t : Text) → t ≡ refusing_text admits_empty m.length → ItemsImported s out t out
-        import_empty e t et =
-            by_parsed (refused admits_empty (length (like_text is))) (rw (some-text, short-text, few-items, none_by true e))
-            t (et ∙ ap (refusing_text admits_empty) ms.long) out refl
+        pub import_empty : not m.some ≡ true → (e : Refused) → e ≡ refused_at AdmitsEmpty m.length → ItemsImported s out (refusing_text (number_of e.refusal) e.place) out
+        import_empty e = refuses AdmitsEmpty m.length (rw (some-text, short-text, few-items, none_by true e) (ap (refused (number_of AdmitsEmpty)) (sym ms.long)))
 
         pub import_writable : Writable s (length out)
         import_writable = record { items = is; reads = h.reads; room = omega (arith, ms.long, h.long) }
 
-        pub import_done : not m.some ≡ false → (out' : List ℕ) → WrittenIs s out out' → (t : Text) → t ≡ written_text m.length → ItemsImported s out t out'
-        import_done e out' w t et =
+        pub import_done : not m.some ≡ false → (out' : List ℕ) → WrittenIs s out out' → ItemsImported s out (written_text m.length) out'
+        import_done e out' w =
             by_parsed (accepted (like_elements is)) (rw (some-text, short-text, few-items, none_by false e))
-            t (et ∙ ap written_text ms.long) out' (w.list is h.reads)
+            (written_text m.length) (ap written_text ms.long) out' (w.list is h.reads)
 
 -- ---- `import_like`
 
@@ -175,27 +174,29 @@ module _ (s out : List ℕ) where
   by_answer : (x : TextAnswer) → imported s (length out) ≡ x → (t : Text) → t ≡ text_answer x → (out' : List ℕ) → out' ≡ text_buffer x out → ImportIs s out t out'
   by_answer x e = answered (imported s (length out)) x e out
 
-  pub import_short : length out < rule_limit → (t : Text) → t ≡ refusing_text too_short 0 → ImportIs s out t out
-  import_short l t et = by_answer (turns_down too_short 0) (rw (lt-ltb (length out) rule_limit l)) t et out refl
+  refuses_call : (x : Refusal) (k : ℕ) → imported s (length out) ≡ turns_down (number_of x) k → (e : Refused) → e ≡ refused_at x k → ImportIs s out (refusing_text (number_of e.refusal) e.place) out
+  refuses_call x k q e ee = rw ee (by_answer (turns_down (number_of x) k) q (refusing_text (number_of x) k) refl out refl)
+
+  pub import_short : length out < rule_limit → (e : Refused) → e ≡ refused_at TooShort 0 → ImportIs s out (refusing_text (number_of e.refusal) e.place) out
+  import_short l = refuses_call TooShort 0 (rw (lt-ltb (length out) rule_limit l))
 
   module _ (l : rule_limit ≤ length out) where
-    pub import_over : text_limit < length s → (t : Text) → t ≡ refusing_text too_much 0 → ImportIs s out t out
-    import_over h t et = by_answer (turns_down too_much 0) (rw (le-ltb (length out) rule_limit l, lt-ltb text_limit (length s) h)) t et out refl
+    pub import_over : text_limit < length s → (e : Refused) → e ≡ refused_at TooMuch 0 → ImportIs s out (refusing_text (number_of e.refusal) e.place) out
+    import_over h = refuses_call TooMuch 0 (rw (le-ltb (length out) rule_limit l, lt-ltb text_limit (length s) h))
 
-    module _ (h : length s ≤ text_limit) (r : Measured) (hr : MeasuredIs s r) where
+    module _ (h : length s ≤ text_limit) where
       by_pattern : imported s (length out) ≡ import_items (like s)
       by_pattern = rw (le-ltb (length out) rule_limit l, le-ltb text_limit (length s) h)
 
-      module _ (p : ℕ) (e : r ≡ MisspeltAt p) where
-        bad : MeasuredBy s (MisspeltAt p)
-        bad = subst (MeasuredBy s) e hr.is
+      pub import_misspelt : (e : Refused) → MisspeltIs s e → ImportIs s out (refusing_text (number_of e.refusal) e.place) out
+      import_misspelt e r = refuses_call LikeFault e.place (by_pattern ∙ ap import_items r.is) e (ap (λ (x : Refusal). refused_at x e.place) r.fault)
 
-        pub import_misspelt : (t : Text) → t ≡ refusing_text like_fault p → ImportIs s out t out
-        import_misspelt t et = by_answer (turns_down like_fault p) (by_pattern ∙ ap import_items bad) t et out refl
-
-      module _ (m : Measure) (e : r ≡ Items m) where
+      module _ (m : Measure) (r : MeasuredIs s m) where
         pub import_ready : Importable s m (length out)
-        import_ready = let b : MeasuredBy s (Items m) = subst (MeasuredBy s) e hr.is in record { items = b.0; reads = b.1; measures = b.2; long = l }
+        import_ready = record { items = r.items; reads = r.reads; measures = r.measures; long = l }
 
-        pub import_items_lem : (t : Text) (out' : List ℕ) → ItemsImported s out t out' → ImportIs s out t out'
-        import_items_lem t out' i = record { answers = i.answers ∙ sym (ap text_answer by_pattern); buffer = i.buffer ∙ sym (ap (λ (x : TextAnswer). text_buffer x out) by_pattern) }
+        by_items : (t : Text) (out' : List ℕ) → ItemsImported s out t out' → ImportIs s out t out'
+        by_items t out' i = record { answers = i.answers ∙ sym (ap text_answer by_pattern); buffer = i.buffer ∙ sym (ap (λ (x : TextAnswer). text_buffer x out) by_pattern) }
+
+        pub import_items_lem : (r : Result ℕ Refused) (out' : List ℕ) → ItemsTried s out r out' → ImportTried s out r out'
+        import_items_lem r out' i = MatchResult-weaker r i (λ n. by_items (written_text n) out') (λ e. by_items (refusing_text (number_of e.refusal) e.place) out')

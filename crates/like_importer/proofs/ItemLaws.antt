@@ -8,26 +8,22 @@ use native.Mathlib.Numerals.{add-one}
 use lib.ListN.{length, get_or, set, drop, length-set, drop_of_length-le}
 use lib.Seq.{drop-cons}
 use borrow.Author.Tests.{ne_eqb}
+use Rattle.std.specs.Prelude.{Option, None, Some}
 use Rattle.model.specs.Ascii.{ascii}
 use Rattle.model.specs.RuleText.{one_of, marks}
 use Rattle.model.specs.Like.{LikeItem, any_bytes, one_byte, plain, LikePattern, misspelt, add_item, like_from}
 use Rattle.like_importer.specs.declared.Item.{Item}
-use Rattle.like_importer.specs.declared.ItemAnswer.TheVariants.{Misspelt, Got}
-use Rattle.like_importer.specs.Importing.{spelling, Spells, ReadsItem, PutIs}
+use Rattle.like_importer.specs.Importing.{spelled_by, spelling, Spells, ReadsItem, PutIs}
 
 -- ---- `is_mark`
-
-pub marks-none : (c : ℕ) → (c ≡ 46 → ⊥) → (c ≡ 91 → ⊥) → (c ≡ 93 → ⊥) → (c ≡ 123 → ⊥) → (c ≡ 125 → ⊥) → (c ≡ 63 → ⊥) → (c ≡ 43 → ⊥) → (c ≡ 42 → ⊥) → (c ≡ 92 → ⊥) → false ≡ one_of marks c
-marks-none c n0 n1 n2 n3 n4 n5 n6 n7 n8 =
-    simp (ne_eqb _ _ n0, ne_eqb _ _ n1, ne_eqb _ _ n2, ne_eqb _ _ n3, ne_eqb _ _ n4, ne_eqb _ _ n5, ne_eqb _ _ n6, ne_eqb _ _ n7, ne_eqb _ _ n8)
 
 -- ---- `plain_item`
 
 module _ (c : ℕ) (r : Bool) (is : r ≡ one_of marks c) where
-  pub plain-mark : r ≡ true → Spells (plain c) (record { first = 92; second = c; two = true; some = true })
+  pub plain-mark : r ≡ true → Spells (plain c) (record { first = 92; second = Some c; some = true })
   plain-mark e = let m : one_of marks c ≡ true = sym is ∙ e in record { text = rw m; some = refl }
 
-  pub plain_other : r ≡ false → Spells (plain c) (record { first = c; second = 0; two = false; some = true })
+  pub plain_other : r ≡ false → Spells (plain c) (record { first = c; second = None; some = true })
   plain_other e = let m : one_of marks c ≡ false = sym is ∙ e in record { text = rw m; some = refl }
 
 -- ---- `read_item`, `escaped_item`
@@ -40,7 +36,7 @@ module _ (s : List ℕ) (at : ℕ) (l : at < length s) where
   abbrev rest : LikePattern
   rest = like_from false (at + 1) (drop (at + 1) s)
 
-  got : (i : LikeItem) (x : Item) → Spells i x → like_from false at (drop at s) ≡ add_item i rest → ReadsItem s at (Got x (at + 1))
+  got : (i : LikeItem) (x : Item) → Spells i x → like_from false at (drop at s) ≡ add_item i rest → ReadsItem s at (Some (x, (at + 1)))
   got i x h e = record { is = record { item = i; spells = h; ahead = omega arith; inside = omega arith; reads = e } }
 
   -- the next byte settles it
@@ -51,13 +47,13 @@ module _ (s : List ℕ) (at : ℕ) (l : at < length s) where
   follows : (i : LikeItem) → add_item i (like_from false (suc at) (drop (at + 1) s)) ≡ add_item i rest
   follows i = ap (λ (k : ℕ). add_item i (like_from false k (drop (at + 1) s))) (sym (add-one at))
 
-  pub read_any : get_or s at 0 ≡ 37 → ReadsItem s at (Got (record { first = 46; second = 42; two = true; some = false }) (at + 1))
-  read_any e = got any_bytes (record { first = 46; second = 42; two = true; some = false }) (record { text = refl; some = refl }) (begins 37 e (add_item any_bytes rest) (follows any_bytes))
+  pub read_any : get_or s at 0 ≡ 37 → ReadsItem s at (Some ((record { first = 46; second = Some 42; some = false }), (at + 1)))
+  read_any e = got any_bytes (record { first = 46; second = Some 42; some = false }) (record { text = refl; some = refl }) (begins 37 e (add_item any_bytes rest) (follows any_bytes))
 
-  pub read_one : get_or s at 0 ≡ 95 → ReadsItem s at (Got (record { first = 46; second = 0; two = false; some = true }) (at + 1))
-  read_one e = got one_byte (record { first = 46; second = 0; two = false; some = true }) (record { text = refl; some = refl }) (begins 95 e (add_item one_byte rest) (follows one_byte))
+  pub read_one : get_or s at 0 ≡ 95 → ReadsItem s at (Some ((record { first = 46; second = None; some = true }), (at + 1)))
+  read_one e = got one_byte (record { first = 46; second = None; some = true }) (record { text = refl; some = refl }) (begins 95 e (add_item one_byte rest) (follows one_byte))
 
-  pub read_plain : (get_or s at 0 ≡ 37 → ⊥) → (get_or s at 0 ≡ 95 → ⊥) → (get_or s at 0 ≡ 92 → ⊥) → (x : Item) → Spells (plain (get_or s at 0)) x → ReadsItem s at (Got x (at + 1))
+  pub read_plain : (get_or s at 0 ≡ 37 → ⊥) → (get_or s at 0 ≡ 95 → ⊥) → (get_or s at 0 ≡ 92 → ⊥) → (x : Item) → Spells (plain (get_or s at 0)) x → ReadsItem s at (Some (x, (at + 1)))
   read_plain n0 n1 n2 x h =
       let c = get_or s at 0 in
       got (plain c) x h
@@ -69,7 +65,7 @@ module _ (s : List ℕ) (at : ℕ) (l : at < length s) where
     escapes : (p : LikePattern) → like_from true (suc at) (drop (at + 1) s) ≡ p → like_from false at (drop at s) ≡ p
     escapes p q = begins 92 e p q
 
-    pub escaped_last : length s ≤ at + 1 → ReadsItem s at Misspelt
+    pub escaped_last : length s ≤ at + 1 → ReadsItem s at None
     escaped_last h = let d = drop_of_length-le s h in record { is = escapes (misspelt at) (ap (like_from true (suc at)) d) }
 
     module _ (h : at + 1 < length s) where
@@ -82,7 +78,7 @@ module _ (s : List ℕ) (at : ℕ) (l : at < length s) where
           ap (like_from true (suc at)) (next-byte s (at + 1) d h refl)
           ∙ ap (λ (x : Bool). cond x (add_item (plain d) (like_from false (suc (suc at)) (drop (at + 1 + 1) s))) (misspelt at)) q
 
-      escaped_got : one_of (ascii "%_\\") d ≡ true → (x : Item) → Spells (plain d) x → ReadsItem s at (Got x (at + 1 + 1))
+      escaped_got : one_of (ascii "%_\\") d ≡ true → (x : Item) → Spells (plain d) x → ReadsItem s at (Some (x, (at + 1 + 1)))
       escaped_got q x i =
           let z : suc (suc at) ≡ at + 1 + 1 = omega arith in
           record {
@@ -96,47 +92,47 @@ module _ (s : List ℕ) (at : ℕ) (l : at < length s) where
             };
           }
 
-      pub escaped_percent : d ≡ 37 → (x : Item) → Spells (plain d) x → ReadsItem s at (Got x (at + 1 + 1))
+      pub escaped_percent : d ≡ 37 → (x : Item) → Spells (plain d) x → ReadsItem s at (Some (x, (at + 1 + 1)))
       escaped_percent q = escaped_got (rw q)
 
-      pub escaped_line : d ≡ 95 → (x : Item) → Spells (plain d) x → ReadsItem s at (Got x (at + 1 + 1))
+      pub escaped_line : d ≡ 95 → (x : Item) → Spells (plain d) x → ReadsItem s at (Some (x, (at + 1 + 1)))
       escaped_line q = escaped_got (rw q)
 
-      pub escaped_slash : d ≡ 92 → (x : Item) → Spells (plain d) x → ReadsItem s at (Got x (at + 1 + 1))
+      pub escaped_slash : d ≡ 92 → (x : Item) → Spells (plain d) x → ReadsItem s at (Some (x, (at + 1 + 1)))
       escaped_slash q = escaped_got (rw q)
 
-      pub escaped_other : (d ≡ 37 → ⊥) → (d ≡ 95 → ⊥) → (d ≡ 92 → ⊥) → ReadsItem s at Misspelt
+      pub escaped_other : (d ≡ 37 → ⊥) → (d ≡ 95 → ⊥) → (d ≡ 92 → ⊥) → ReadsItem s at None
       escaped_other n0 n1 n2 = record { is = escapes (misspelt at) (escaped_by false (simp (ne_eqb _ _ n0, ne_eqb _ _ n1, ne_eqb _ _ n2))) }
 
 -- ---- `put_item`
 
 pub spelling-some : (x : Item) → 1 ≤ length (spelling x)
-spelling-some x = go x.two
+spelling-some x = go x.second
   where
-    go : (b : Bool) → 1 ≤ length (cond b (x.first ∷ x.second ∷ []) (x.first ∷ []))
-    go true = omega arith
-    go false = omega arith
+    go : (b : Option ℕ) → 1 ≤ length (spelled_by x.first b)
+    go None = omega arith
+    go (Some d) = omega arith
 
 pub spelling-short : (x : Item) → length (spelling x) ≤ 2
-spelling-short x = go x.two
+spelling-short x = go x.second
   where
-    go : (b : Bool) → length (cond b (x.first ∷ x.second ∷ []) (x.first ∷ [])) ≤ 2
-    go true = omega arith
-    go false = omega arith
+    go : (b : Option ℕ) → length (spelled_by x.first b) ≤ 2
+    go None = omega arith
+    go (Some d) = omega arith
 
 module _ (x : Item) (out : List ℕ) (at : ℕ) where
   pub put_first : at + length (spelling x) ≤ length out → at < length out
   put_first h = omega (arith, spelling-some x)
 
-  module _ (e : x.two ≡ true) where
-    two : spelling x ≡ x.first ∷ x.second ∷ []
-    two = rw e
+  module _ (d : ℕ) (e : x.second ≡ Some d) where
+    two : spelling x ≡ x.first ∷ d ∷ []
+    two = ap (spelled_by x.first) e
 
     pub put_second : at + length (spelling x) ≤ length out → at + 1 < length (set out at x.first)
     put_second h = let z = ap length two in omega (arith, length-set out at x.first)
 
-    pub put_two : PutIs x out at (at + 1 + 1) (set (set out at x.first) (at + 1) x.second)
+    pub put_two : PutIs x out at (at + 1 + 1) (set (set out at x.first) (at + 1) d)
     put_two = let z = ap length two in record { end = omega arith; list = rw (two, add-one at) }
 
-  pub put_one : x.two ≡ false → PutIs x out at (at + 1) (set out at x.first)
-  put_one e = let o : spelling x ≡ x.first ∷ [] = rw e in let z = ap length o in record { end = omega arith; list = rw o }
+  pub put_one : x.second ≡ None → PutIs x out at (at + 1) (set out at x.first)
+  put_one e = let o : spelling x ≡ x.first ∷ [] = ap (spelled_by x.first) e in let z = ap length o in record { end = omega arith; list = rw o }

@@ -15,12 +15,13 @@ use Rattle.model.specs.NumberedAnswers.{text_limit}
 use Rattle.model.specs.Like.{LikeItem, any_bytes, one_byte, plain, LikePattern, misspelt, pattern, add_item, like_from, like, item_text, like_text}
 use Rattle.rule_spelling.specs.LikeRules.{singles, past_place}
 use Rattle.rule_spelling.proofs.LikeRules.{text-append}
+use Rattle.std.specs.Prelude.{Option, None, Some}
+use Rattle.answers.specs.declared.Refusal.TheVariants.{LikeFault}
+use Rattle.answers.specs.declared.Refused.{Refused}
+use Rattle.answers.specs.Answers.{refused_at}
 use Rattle.like_importer.specs.declared.Item.{Item}
-use Rattle.like_importer.specs.declared.ItemAnswer.{ItemAnswer}
-use Rattle.like_importer.specs.declared.ItemAnswer.TheVariants.{Misspelt, Got}
 use Rattle.like_importer.specs.declared.Measure.{Measure}
-use Rattle.like_importer.specs.declared.Measured.TheVariants.{Misspelt as MisspeltAt, Items}
-use Rattle.like_importer.specs.Importing.{spelling, single, Spells, ItemRead, Reads, ReadsItem, added, Addable, Measures, MeasuredIs}
+use Rattle.like_importer.specs.Importing.{spelling, single, Spells, ItemRead, Reads, ReadsItem, added, Addable, Measures, MeasuredIs, MisspeltIs}
 use Rattle.like_importer.proofs.ItemLaws.{spelling-short}
 
 -- ---- `add_item`
@@ -120,22 +121,22 @@ module _ (s : List ℕ) where
   }
 
   module _ (at : ℕ) (m : Measure) (g : Measuring s at m) where
-    pub measure_over : length s ≤ at → MeasuredIs s (Items m)
+    pub measure_over : length s ≤ at → MeasuredIs s m
     measure_over h =
         let d = drop_of_length-le s h in
-        record { is = (g.before, g.is ∙ ap (λ (l : List ℕ). add_items g.before (like_from false at l)) d ∙ add_all g.before, g.measures) }
+        record { items = g.before; reads = g.is ∙ ap (λ (l : List ℕ). add_items g.before (like_from false at l)) d ∙ add_all g.before; measures = g.measures }
 
     module _ (l : at < length s) where
       pub measure_addable : length s ≤ text_limit → Addable m
       measure_addable h = record { few = omega (arith, g.few); short = omega (arith, g.short) }
 
-      module _ (a : ItemAnswer) (ha : ReadsItem s at a) where
-        pub measure_bad : a ≡ Misspelt → MeasuredIs s (MisspeltAt at)
-        measure_bad e =
-            let b : Reads s at Misspelt = subst (Reads s at) e ha.is in
-            record { is = g.is ∙ ap (add_items g.before) b ∙ add_bad g.before at }
+      module _ (a : Option (Item × ℕ)) (ha : ReadsItem s at a) where
+        pub measure_bad : a ≡ None → (x : Refused) → x ≡ refused_at LikeFault at → MisspeltIs s x
+        measure_bad e x ex =
+            let b : Reads s at None = subst (Reads s at) e ha.is in
+            rw ex (record { fault = refl; is = g.is ∙ ap (add_items g.before) b ∙ add_bad g.before at })
 
-        module _ (x : Item) (next : ℕ) (e : a ≡ Got x next) where
+        module _ (x : Item) (next : ℕ) (e : a ≡ Some (x, next)) where
           read : ItemRead s at x next
           read = subst (Reads s at) e ha.is
 

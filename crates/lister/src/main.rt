@@ -1,9 +1,7 @@
 // The lister program of document 01: a rule on the first line of its input, the raw plan after that newline.
-// `take` sorts the input into both, however long it is and in whatever pieces it comes; `list` prints what the
+// `Taken::take` sorts the input into both, however long it is and in whatever pieces it comes; `list` prints what the
 // finder answers, through the calls that a C host has.
 #![tactic(auto)]
-
-ghost use Rattle.std.specs.Prelude.{◌≤◌};
 
 use answers::Answer;
 
@@ -31,59 +29,65 @@ struct Taken {
     too_long: bool,
 }
 
-fn nothing_taken() -> Taken {
-    Taken {
-        in_plan: false,
-        rule: 0,
-        plan: 0,
-        too_long: false,
+impl Taken {
+    fn nothing() -> Taken {
+        Taken {
+            in_plan: false,
+            rule: 0,
+            plan: 0,
+            too_long: false,
+        }
     }
-}
 
-fn take_rule_byte(taken: Taken, c: u8, rule: &mut [u8]) -> Taken {
-    let n = taken.rule;
-    if n >= rule.len() {
-        return taken;
+    fn take_rule_byte(&mut self, c: u8, rule: &mut [u8]) {
+        if self.rule < rule.len() {
+            rule[self.rule] = c;
+            self.rule += 1;
+        }
     }
-    rule[n] = c;
-    let mut next = taken;
-    next.rule = n + 1;
-    next
-}
 
-fn take_plan_byte(taken: Taken, c: u8, plan: &mut [u8]) -> Taken {
-    let n = taken.plan;
-    let mut next = taken;
-    if n >= plan.len() {
-        next.too_long = true;
-        return next;
+    fn take_plan_byte(&mut self, c: u8, plan: &mut [u8]) {
+        if self.plan < plan.len() {
+            plan[self.plan] = c;
+            self.plan += 1;
+        } else {
+            self.too_long = true;
+        }
     }
-    plan[n] = c;
-    next.plan = n + 1;
-    next
-}
 
-fn take_byte(taken: Taken, c: u8, rule: &mut [u8], plan: &mut [u8]) -> Taken {
-    if taken.in_plan {
-        return take_plan_byte(taken, c, plan);
+    fn take_byte(&mut self, c: u8, rule: &mut [u8], plan: &mut [u8]) {
+        if self.in_plan {
+            self.take_plan_byte(c, plan);
+        } else if c == b'\n' {
+            self.in_plan = true;
+        } else {
+            self.take_rule_byte(c, rule);
+        }
     }
-    if c != b'\n' {
-        return take_rule_byte(taken, c, rule);
-    }
-    let mut next = taken;
-    next.in_plan = true;
-    next
-}
 
-// Takes the next bytes of the input.
-fn take(before: Taken, bytes: &[u8], rule: &mut [u8], plan: &mut [u8]) -> Taken {
-    let mut taken = before;
-    let mut i = 0;
-    while i < bytes.len() {
-        taken = take_byte(taken, bytes[i], rule, plan);
-        i += 1;
+    // Takes the next bytes of the input.
+    fn take(&mut self, bytes: &[u8], rule: &mut [u8], plan: &mut [u8]) {
+        for c in bytes {
+            self.take_byte(*c, rule, plan);
+        }
     }
-    taken
+
+    // Takes what one read of standard input gives, and says whether it was the last.
+    fn read_some(&mut self, rule: &mut [u8], plan: &mut [u8]) -> bool {
+        let mut room = io::large_buffer();
+        let n = io::read_full(0, &mut room);
+        self.take(&room[..n], rule, plan);
+        n < room.len()
+    }
+
+    // Nothing tells the prover that an input ends, so the reads are counted; no input outlasts them.
+    fn read_all(&mut self, rule: &mut [u8], plan: &mut [u8]) {
+        for _ in 0..u64::MAX {
+            if self.read_some(rule, plan) {
+                return;
+            }
+        }
+    }
 }
 
 fn text(s: &[u8]) {
@@ -91,7 +95,7 @@ fn text(s: &[u8]) {
 }
 
 fn number(n: u32) {
-    io::print_decimal(1, n as u64);
+    io::print_decimal(1, u64::from(n));
 }
 
 fn line(name: &[u8], n: u32) {
@@ -100,38 +104,23 @@ fn line(name: &[u8], n: u32) {
     text(b"\n");
 }
 
-fn numbers(list: &[u32]) {
-    let mut i = 0;
-    while i < list.len() {
-        text(b" ");
-        number(list[i]);
-        i += 1;
-    }
-}
-
-fn at_most(n: usize, most: usize) -> usize
-    ensures { result ≤ most }
-{
-    if n < most {
-        return n;
-    }
-    most
+// An entry of a list, after those before it on its line.
+fn entry(n: u32) {
+    text(b" ");
+    number(n);
 }
 
 // The entries of a list that an answer reports.
 fn reported(a: Answer, list: &[u32]) {
-    let n = at_most(a.count as usize, list.len());
-    numbers(&list[0..n]);
+    for n in list.iter().take(a.count as usize) {
+        entry(*n);
+    }
 }
 
 // The decoded ends of the pairs that an answer reports.
 fn reported_ends(a: Answer, list: &[u32]) {
-    let n = at_most(a.count as usize, list.len() / limits::PAIR);
-    let mut i = 0;
-    while i < n {
-        text(b" ");
-        number(list[limits::PAIR * i]);
-        i += 1;
+    for pair in list.chunks_exact(limits::PAIR).take(a.count as usize) {
+        entry(pair[0]);
     }
 }
 
@@ -141,23 +130,13 @@ fn feed_piece(scan: &mut [u64], piece: &[u8]) {
     reported_ends(a, &ends);
 }
 
-fn feed_pieces(scan: &mut [u64], plan: &[u8]) {
-    let mut i = 0;
-    while i < plan.len() {
-        let n = at_most(PIECE, plan.len() - i);
-        feed_piece(scan, &plan[i..i + n]);
-        if n < PIECE {
-            return;
-        }
-        i += PIECE;
-    }
-}
-
 fn list_ends(rule: &[u8], plan: &[u8]) {
     let mut scan = [0u64; scan_value::LENGTH];
     jazhuppe::exports::jazhuppe_open(rule, 0, b"", b"", &mut scan);
     text(b"ends");
-    feed_pieces(&mut scan, plan);
+    for piece in plan.chunks(PIECE) {
+        feed_piece(&mut scan, piece);
+    }
     let mut ends = [0u32; FINISH_LIST];
     let a = jazhuppe::exports::jazhuppe_finish(&mut scan, &mut ends);
     reported_ends(a, &ends);
@@ -178,8 +157,8 @@ fn list_plan(rule: &[u8], plan: &[u8]) {
     list_ends(rule, plan);
     let mut decoded = [0u8; PLAN_LIMIT];
     let a = jazhuppe::exports::jazhuppe_decode(plan, &mut decoded);
-    let n = at_most(a.count as usize, PLAN_LIMIT);
-    list_starts(rule, &decoded[0..n]);
+    let n = (a.count as usize).min(PLAN_LIMIT);
+    list_starts(rule, &decoded[..n]);
 }
 
 fn list_rule(rule: &[u8], plan: &[u8]) {
@@ -201,45 +180,15 @@ fn list(taken: Taken, rule: &[u8], plan: &[u8]) {
         text(b"too long\n");
         return;
     }
-    let r = at_most(taken.rule, rule.len());
-    let p = at_most(taken.plan, plan.len());
-    list_rule(&rule[0..r], &plan[0..p]);
-}
-
-// What one read of standard input gave, and whether it was the last.
-#[derive(Drop)]
-struct Step {
-    taken: Taken,
-    ended: bool,
-}
-
-fn read_some(taken: Taken, rule: &mut [u8], plan: &mut [u8]) -> Step {
-    let mut room = io::large_buffer();
-    let n = io::read_full(0, &mut room);
-    Step {
-        taken: take(taken, &room[0..n], rule, plan),
-        ended: n < 65536,
-    }
-}
-
-// Nothing tells the prover that an input ends, so the reads are counted; no input outlasts them.
-fn read_all(rule: &mut [u8], plan: &mut [u8]) -> Taken {
-    let mut taken = nothing_taken();
-    let mut left = 18_446_744_073_709_551_615u64;
-    while left > 0 {
-        let step = read_some(taken, rule, plan);
-        taken = step.taken;
-        if step.ended {
-            return taken;
-        }
-        left -= 1;
-    }
-    taken
+    let r = taken.rule.min(rule.len());
+    let p = taken.plan.min(plan.len());
+    list_rule(&rule[..r], &plan[..p]);
 }
 
 fn main() {
     let mut rule = [0u8; RULE_ROOM];
     let mut plan = [0u8; PLAN_LIMIT];
-    let taken = read_all(&mut rule, &mut plan);
+    let mut taken = Taken::nothing();
+    taken.read_all(&mut rule, &mut plan);
     list(taken, &rule, &plan);
 }

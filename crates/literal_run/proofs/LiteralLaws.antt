@@ -1,6 +1,6 @@
 -- Runs of plain bytes, copied by blocks of 32, by a part of one, and byte by byte. On plain values. Assumes nothing.
-use mathlib.Core.Path.{◌≡◌, refl, sym, ap, subst, ◌∙◌}
-use mathlib.Core.Bool.{Bool, false, not}
+use mathlib.Core.Path.{◌≡◌, sym, ap, subst, ◌∙◌}
+use mathlib.Core.Bool.{false, not}
 use mathlib.Core.List.{List, ◌++◌}
 use Prim.Native.Nat.{ℕ, zero, suc, ◌+◌, ◌-◌, ◌≤◌, ◌<◌}
 use native.Mathlib.Nat.{add-zero, zero-add}
@@ -14,7 +14,7 @@ use Rattle.model.specs.References.{not_amp}
 use Rattle.model.proofs.Truth.{and_intro, T-to}
 use Rattle.model.proofs.Shares.{all_append}
 use Rattle.model.proofs.LentLists.{sets-append}
-use Rattle.byte_search.specs.BlockTests.{BlockTested, NoneBefore, same}
+use Rattle.byte_search.specs.BlockTests.{NoneBefore, same}
 use Rattle.literal_run.specs.LiteralRuns.{Copied, RestCopied, LiteralsCopied}
 
 -- k places where a block has no `&` are plain bytes
@@ -38,10 +38,6 @@ pub record Copying (raw : List ℕ) (i₀ : ℕ) (out₀ out : List ℕ) (i : �
   pub copied : Copied raw i₀ out₀ i out
 
 module _ (raw : List ℕ) (i₀ : ℕ) (out₀ : List ℕ) where
-  pub copy_begun : i₀ ≤ length raw → Copying raw i₀ out₀ out₀ i₀
-  copy_begun h =
-      record { fits = h; long = refl; copied = record { count = 0; end = omega arith; fits = h; plain = tt; list = refl } }
-
   module _ {out : List ℕ} {i : ℕ} where
     -- k bytes more
     copied_more : Copied raw i₀ out₀ i out → (k : ℕ) → i + k ≤ length raw → T (all not_amp (take k (drop i raw)))
@@ -77,9 +73,9 @@ module _ (raw : List ℕ) (i₀ : ℕ) (out₀ : List ℕ) where
             copied = subst (Copied raw i₀ out₀ (i + k)) (sym e) (copied_more g.copied k h t);
           }
 
-      pub copy_block : 32 ≤ length raw - i → (r : Bool) → BlockTested (same raw 38) i 32 r → r ≡ false
+      pub copy_block : 32 ≤ length raw - i → NoneBefore (same raw 38) i (i + 32) (i + 32)
           → (out' : List ℕ) → out' ≡ sets out i (take 32 (drop i raw)) → Copying raw i₀ out₀ out' (i + 32)
-      copy_block h r x e out' q = copying_more 32 (omega arith) (missed_plain raw 32 i (omega arith) (x.none e)) out' q
+      copy_block h x out' q = copying_more 32 (omega arith) (missed_plain raw 32 i (omega arith) (λ j l. x.none (i + j) (omega arith) (omega arith))) out' q
 
       pub copy_byte : i < length raw → (get_or raw i 0 ≡ 38 → ⊥) → Copying raw i₀ out₀ (set out i (get_or raw i 0)) (i + 1)
       copy_byte h n =
@@ -88,18 +84,6 @@ module _ (raw : List ℕ) (i₀ : ℕ) (out₀ : List ℕ) where
         where
           one : (j : ℕ) → j < 1 → same raw 38 (i + j) ≡ false
           one j l = let e : i + j ≡ i = omega arith in rw e (ne_eqb (get_or raw i 0) 38 n)
-
-      pub blocks_copied : Copied raw i₀ out₀ i out
-      blocks_copied = g.copied
-
-      pub rest-stops : get_or raw i 0 ≡ 38 → RestCopied raw i₀ out₀ i out
-      rest-stops e = record { copied = g.copied; stops = λ l. e }
-
-      pub rest-ends : length raw ≤ i → RestCopied raw i₀ out₀ i out
-      rest-ends h = record { copied = g.copied; stops = λ l. absurd (omega arith) }
-
-pub blocks_begun : (raw out₀ : List ℕ) → Copying raw 0 out₀ out₀ 0
-blocks_begun raw out₀ = copy_begun raw 0 out₀ (omega arith)
 
 -- ---- `copy_last_block`, `copy_literals`
 

@@ -1,36 +1,21 @@
 // Copies literal bytes, those without a `&`, by blocks of 32, the last one a part of a block.
 #![tactic(auto)]
 
-ghost use Rattle.std.specs.Prelude.{◌≡◌, cond, ◌++◌, ◌+◌, ◌≤◌, length, take, drop};
+ghost use Rattle.std.specs.Prelude.{◌≡◌, ◌++◌, ◌+◌, ◌≤◌, length, take, drop};
 ghost use Rattle.std.proofs.lemmas.List.Edits.{sets};
-ghost use Rattle.byte_search.specs.BlockTests.{BlockTested, same};
 ghost use Rattle.literal_run.specs.LiteralRuns.{Copied, RestCopied, LiteralsCopied};
 
-// Whether one of the 32 bytes from i on is a `&`. No early exit, so that it compiles to vector
-// instructions.
-fn block_has_amp(s: &[u8], i: usize) -> bool
-    requires { i + 32 ≤ length s.now }
-    ensures { BlockTested (same s.now 38) i 32 result }
-{
-    let mut z = false;
-    let mut j = 0;
-    while j < 32 {
-        z = z | (s[i + j] == b'&');
-        j += 1;
-    }
-    z
-}
+use byte_search::{any_in_block, first_in_block};
 
-// The 32 bytes from i on.
+// The 32 bytes from i on. Byte by byte, here and in `store_block`: the compiler makes two loads and two stores
+// of the turns, where `copy_from_slice` stays a call, and a copy takes 2.5 times as long.
 fn load_block(s: &[u8], i: usize) -> [u8; 32]
     requires { i + 32 ≤ length s.now }
     ensures { result ≡ take 32 (drop i s.now) }
 {
     let mut block = [0u8; 32];
-    let mut j = 0;
-    while j < 32 {
+    for j in 0..32 {
         block[j] = s[i + j];
-        j += 1;
     }
     block
 }
@@ -40,10 +25,8 @@ fn store_block(block: [u8; 32], i: usize, out: &mut [u8])
     requires { i + 32 ≤ length out.old }
     ensures { out.new ≡ sets out.old i block }
 {
-    let mut j = 0;
-    while j < 32 {
-        out[i + j] = block[j];
-        j += 1;
+    for (j, &b) in block.iter().enumerate() {
+        out[i + j] = b;
     }
 }
 
@@ -58,27 +41,16 @@ fn copy_block(raw: &[u8], i: usize, out: &mut [u8])
     store_block(block, i, out);
 }
 
-fn select(first: bool, x: u8, y: u8) -> u8
-    ensures { result ≡ cond first x y }
-{
-    if first {
-        return x;
-    }
-    y
-}
-
 // The first n bytes of a block, and then those of another. No branch on n, so that it compiles to
 // vector instructions.
 fn blend(new: [u8; 32], old: [u8; 32], n: u8) -> [u8; 32]
     requires { n ≤ 32 }
     ensures { result ≡ take n new ++ drop n old }
 {
-    let mut block = [0u8; 32];
-    let mut j: u8 = 0;
-    while j < 32 {
-        let k = j as usize;
-        block[k] = select(j < n, new[k], old[k]);
-        j += 1;
+    let mut block = old;
+    for j in 0..32u8 {
+        let k = usize::from(j);
+        block[k] = if j < n { new[k] } else { old[k] };
     }
     block
 }
@@ -104,9 +76,10 @@ fn copy_blocks(raw: &[u8], out: &mut [u8]) -> usize
     requires { length raw.now ≤ length out.old }
     ensures { Copied raw.now 0 out.old result out.new }
 {
+    // A `while`, since the place that the blocks reach is the answer.
     let mut i = 0;
     while 32 <= raw.len() - i {
-        if block_has_amp(raw, i) {
+        if any_in_block::<32, _>(|k| raw[k] == b'&', i) {
             return i;
         }
         copy_block(raw, i, out);
@@ -122,16 +95,14 @@ fn copy_bytes(raw: &[u8], i: usize, out: &mut [u8]) -> usize
     requires raw_in_bounds { length raw.now ≤ length out.old }
     ensures { RestCopied raw.now i out.old result out.new }
 {
-    let mut i = i;
-    while i < raw.len() {
-        let c = raw[i];
+    for j in i..raw.len() {
+        let c = raw[j];
         if c == b'&' {
-            return i;
+            return j;
         }
-        out[i] = c;
-        i += 1;
+        out[j] = c;
     }
-    i
+    raw.len()
 }
 
 // The same by one block, where a `&` is near.
@@ -140,7 +111,7 @@ fn copy_last_block(raw: &[u8], i: usize, out: &mut [u8]) -> usize
     requires raw_in_bounds { length raw.now ≤ length out.old }
     ensures { RestCopied raw.now i out.old result out.new }
 {
-    let j = byte_search::first_in_block(raw, b'&', i);
+    let j = first_in_block::<64, _>(|k| raw[k] == b'&', i);
     let n = j - i;
     if 32 < n {
         return copy_bytes(raw, i, out);

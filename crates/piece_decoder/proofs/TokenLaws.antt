@@ -113,13 +113,6 @@ module _ (raw out : List ℕ) (i at : ℕ) (h : i < length raw) (wide : at + len
       pub code-after : Fits w64 (length raw) → Fits w64 (i + k)
       code-after f = let m = moving.1 in omega (arith, length-drop i raw)
 
-      pub code-end : (n : ℕ) (part : List ℕ) → Put (mid_of at (length out - at) out) code n part → Fits w64 (length out) → Fits w64 (at + n)
-      code-end n part p f =
-          let m = moving in
-          let m₁ = m.1 in
-          let m₂ = m.2 in
-          omega (arith, p.count, length-drop i raw)
-
       pub token-decoded : (n : ℕ) (part : List ℕ) → Put (mid_of at (length out - at) out) code n part
           → TokenIs raw i out at (record { read = i + k; written = at + n; held = false; reference = true }) (put_mid at (length out - at) out part)
       token-decoded n part p =

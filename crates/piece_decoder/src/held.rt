@@ -26,7 +26,8 @@ pub fn nothing_held() -> Held
 
 // What becomes of held bytes when a piece follows. `Completed`: with so many bytes of the piece they
 // are a reference to the code point. `Literal`: they go out as they came, and reading goes on at the
-// piece's first byte. `Pending`: all can still grow into a form, and is held now.
+// piece's first byte. `Pending`: all can still grow into a form, and is held now. Three answers, so
+// neither an Option nor a Result.
 #[derive(Drop)]
 pub enum HeldOutcome {
     Completed(u32, usize),
@@ -50,6 +51,7 @@ pub fn top_up(h: Held, piece: &[u8]) -> Held
     let mut t = h.bytes;
     let mut n = h.len;
     let mut i = 0;
+    // Not a `for` over the piece: the compiler makes a call of `memcpy` of that, and the archive needs `memset` alone.
     while n < FORM_LIMIT {
         if i == piece.len() {
             return Held { bytes: t, len: n };
@@ -66,29 +68,21 @@ pub fn resolve_held(h: Held, piece: &[u8]) -> Resolved
     requires { HeldFine h }
     ensures { ResolvedIs h piece.now result }
 {
-    let l = h.len;
-    let j = top_up(h, piece);
-    let t = j.bytes;
-    let n = j.len;
-    let found = reference_reader::read_reference(&t[..n]);
-    match found {
-        Reference::Decoded(code, k) => {
-            return Resolved {
-                case: HeldOutcome::Completed(code, k - l),
-                joined: j,
-            };
-        }
-        Reference::Literal => {
-            return Resolved {
-                case: HeldOutcome::Literal,
-                joined: j,
-            };
-        }
-        Reference::Incomplete => {
-            return Resolved {
-                case: HeldOutcome::Pending,
-                joined: j,
-            };
-        }
+    let joined = top_up(h, piece);
+    let t = joined.bytes;
+    let n = joined.len;
+    match reference_reader::read_reference(&t[..n]) {
+        Reference::Decoded(code, k) => Resolved {
+            case: HeldOutcome::Completed(code, k - h.len),
+            joined,
+        },
+        Reference::Literal => Resolved {
+            case: HeldOutcome::Literal,
+            joined,
+        },
+        Reference::Incomplete => Resolved {
+            case: HeldOutcome::Pending,
+            joined,
+        },
     }
 }

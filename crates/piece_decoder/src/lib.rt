@@ -28,38 +28,32 @@ fn decode_amp(raw: &[u8], i: usize, out: &mut [u8], at: usize) -> TokenRead
     requires raw_in_bounds { at + length raw.now ≤ length out.old + i }
     ensures { TokenIs raw.now i out.old at result out.new }
 {
-    let found = reference_reader::read_reference(&raw[i..]);
-    match found {
+    match reference_reader::read_reference(&raw[i..]) {
         Reference::Decoded(code, k) => {
             let n = reference_reader::put_utf8(&mut out[at..], code);
             let after = i + k;
-            let end = at + n;
-            return TokenRead {
+            TokenRead {
                 read: after,
-                written: end,
+                written: at + n,
                 held: false,
                 reference: true,
-            };
+            }
         }
         Reference::Literal => {
             out[at] = raw[i];
-            let after = i + 1;
-            let end = at + 1;
-            return TokenRead {
-                read: after,
-                written: end,
+            TokenRead {
+                read: i + 1,
+                written: at + 1,
                 held: false,
                 reference: false,
-            };
+            }
         }
-        Reference::Incomplete => {
-            return TokenRead {
-                read: i,
-                written: at,
-                held: true,
-                reference: false,
-            };
-        }
+        Reference::Incomplete => TokenRead {
+            read: i,
+            written: at,
+            held: true,
+            reference: false,
+        },
     }
 }
 
@@ -73,11 +67,9 @@ fn decode_token(raw: &[u8], i: usize, out: &mut [u8], at: usize) -> TokenRead
         return decode_amp(raw, i, out, at);
     }
     let n = literal_run::copy_literals(&raw[i..], &mut out[at..]);
-    let after = i + n;
-    let end = at + n;
     TokenRead {
-        read: after,
-        written: end,
+        read: i + n,
+        written: at + n,
         held: false,
         reference: false,
     }
@@ -91,6 +83,7 @@ pub struct TokensDecoded {
 }
 
 // Decodes all that the raw bytes let out to the front of `out`. What they hold back is their end.
+// A `while`, since each token says how far it reads.
 pub fn decode_tokens(raw: &[u8], out: &mut [u8]) -> TokensDecoded
     requires { length raw.now ≤ length out.old }
     ensures { TokensDecodedIs raw.now out.old result out.new }
@@ -155,6 +148,7 @@ fn note(
 }
 
 // Decodes what a part of a piece lets out to the front of `out`, as far as the marks of its references go.
+// A `while`, as above.
 fn decode_marked(raw: &[u8], out: &mut [u8], marks: &mut [u16]) -> MarkedDecoded
     requires raw_in_bounds { length raw.now ≤ length out.old }
     requires raw_len_bound { length raw.now ≤ chunk_size }

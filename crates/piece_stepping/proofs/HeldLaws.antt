@@ -3,10 +3,8 @@ use mathlib.Core.Path.{◌≡◌, refl, sym, ap, subst, ◌∙◌}
 use mathlib.Core.List.{List, [], ◌∷◌, ◌++◌, append-nil}
 use Prim.Native.Nat.{ℕ, ◌+◌, ◌-◌, ◌≤◌}
 use native.Mathlib.Omega.{arith}
-use lib.ListN.{length, take, drop, length-append, length-drop, length-take}
+use lib.ListN.{length, take, drop, length-append, length-drop}
 use lib.Seq.{take_all, sets-eq, length-sets, take-append_seam}
-use mir.Val.{Fits}
-use mir.Syntax.{w64}
 use borrow.Rule.Slice.PartMut.{mid_of}
 use Rattle.model.specs.References.{form_limit, held_most, utf8, Token, byte_tokens, joined, out_tokens}
 use Rattle.model.proofs.Places.{place-taken}
@@ -17,8 +15,9 @@ use Rattle.piece_decoder.specs.declared.held.Held.{Held}
 use Rattle.piece_decoder.specs.declared.held.HeldOutcome.TheVariants.{Completed, Literal, Pending}
 use Rattle.piece_decoder.specs.declared.held.Resolved.{Resolved}
 use Rattle.piece_decoder.specs.Held.{held_of, NothingHeld, TopUpIs, CompletedIs, LiteralIs, PendingIs, ResolvedIs}
-use Rattle.piece_stepping.specs.Stepping.{tokens_of, tail_of, Runner, Standing, SteppedBy, Space, Laid, LaidFits, LaidStepped, code_token, CodeFits, RestStepped, Holds, RestFedBy, FedBy}
-use Rattle.piece_stepping.proofs.Steps.{stepped-none, stepped-append, space-left, space_less}
+use Rattle.piece_stepping.specs.declared.Progress.{Progress}
+use Rattle.piece_stepping.specs.Stepping.{tokens_of, tail_of, Runner, SteppedBy, Space, Laid, LaidFits, LaidStepped, code_token, CodeFits, RestStepped, Holds, RestFedBy, FedBy}
+use Rattle.piece_stepping.proofs.Steps.{stepped-none, stepped-append, space-left}
 
 -- "at most 31 bytes" are held, so a buffer for a form takes them all
 tail-few : (xs : List ℕ) → length (tail_of xs) ≤ held_most form_limit
@@ -27,8 +26,8 @@ tail-few xs = held-length form_limit xs
 
 -- ---- the rest of a piece, and its end is held
 
-module _ {S : Type 0} (R : Runner S) (g : Standing S) (piece : List ℕ) (from : ℕ) (ends : List ℕ) where
-  pub rest-fed : (r : Standing S) (kept : ℕ) (ends' : List ℕ) → RestStepped R g piece from ends r kept ends'
+module _ {S : Type 0} (R : Runner S) (g : Progress S) (piece : List ℕ) (from : ℕ) (ends : List ℕ) where
+  pub rest-fed : (r : Progress S) (kept : ℕ) (ends' : List ℕ) → RestStepped R g piece from ends r kept ends'
       → (none : Held) → NothingHeld none → (j : Held) → TopUpIs none (mid_of kept (length piece - kept) piece) j
       → RestFedBy R g piece from ends r j ends'
   rest-fed r kept ends' w none z j y =
@@ -72,7 +71,7 @@ module _ (code k : ℕ) (l l' : List ℕ) (n : ℕ) (long : length l ≡ 4) (p :
         marked = marked_reference [] 0 [] (marked-none []) t (0 ∷ n ∷ (k - n) ∷ []) (λ i h. absurd (omega arith)) refl (omega arith) (omega arith);
       }
 
-  pub code_fits : CodeFits code k → {S : Type 0} (g : Standing S) (m : ℕ) → Space g k m → (raw : ℕ) → raw ≡ g.raw → LaidFits (take n l') (0 ∷ n ∷ (k - n) ∷ []) 1 raw
+  pub code_fits : CodeFits code k → {S : Type 0} (g : Progress S) (m : ℕ) → Space g k m → (raw : ℕ) → raw ≡ g.raw → LaidFits (take n l') (0 ∷ n ∷ (k - n) ∷ []) 1 raw
   code_fits f g m s raw e =
       let r = s.raw-small in
       let x = code_laid f in
@@ -83,10 +82,7 @@ module _ (code k : ℕ) (l l' : List ℕ) (n : ℕ) (long : length l ≡ 4) (p :
             omega (arith, x.marked.within q a l, place-taken (code_token code k) q a l);
       }
 
-  pub code-space : {S : Type 0} (g : Standing S) (m : ℕ) → CodeFits code k → Space g k m → Space g (length (take n l')) m
-  code-space g m f s = let a = f.few in let b = ap length code-bytes in space_less g (length (take n l')) k m (omega arith) s
-
-  pub coded : {S : Type 0} (R : Runner S) (g : Standing S) (ends : List ℕ) (r : Standing S) (ends' : List ℕ) → CodeFits code k
+  pub coded : {S : Type 0} (R : Runner S) (g : Progress S) (ends : List ℕ) (r : Progress S) (ends' : List ℕ) → CodeFits code k
       → LaidStepped R g (take n l') (0 ∷ n ∷ (k - n) ∷ []) 1 k ends r ends' → SteppedBy R g (code_token code k) ends r ends'
   coded R g ends r ends' f x = x.steps (code_token code k) (code_laid f) (omega arith)
 
@@ -97,32 +93,14 @@ module _ (h : Held) (piece : List ℕ) (x : Resolved) (cr : ResolvedIs h piece x
   h_long : length (held_of h) ≡ h.len
   h_long = cr.joins.held
 
-  pub held_fits : h.len ≤ length h.bytes
-  held_fits = omega (arith, h_long, length-take h.len h.bytes)
-
   module _ (code taken : ℕ) (e : x.case ≡ Completed code taken) where
     completed : CompletedIs (held_of h) piece code taken
     completed = rw e at cr.is
 
-    pub completed_fits : CodeFits code (h.len + taken)
-    completed_fits = let c = completed in let n = h_long in let f = c.few in let s = c.short in record { small = c.small; few = omega arith; short = omega arith }
-
-    pub completed_sum : Fits w64 (h.len + taken)
-    completed_sum = let s = completed_fits.short in omega arith
-
-    pub completed_taken : taken ≤ length piece
-    completed_taken = completed.fits
-
-    pub completed_space : {S : Type 0} (g : Standing S) (m : ℕ) → Space g (h.len + length piece) m → Space g (h.len + taken) m
-    completed_space g m s = let a = completed_taken in space_less g (h.len + taken) (h.len + length piece) m (omega arith) s
-
-  pub literal_space : {S : Type 0} (g : Standing S) (m : ℕ) → Space g (h.len + length piece) m → Space g (length (held_of h)) m
-  literal_space g m s = let n = h_long in space_less g (length (held_of h)) (h.len + length piece) m (omega arith) s
-
-module _ {S : Type 0} (R : Runner S) (g : Standing S) (h : Held) (piece ends : List ℕ) (x : Resolved) (cr : ResolvedIs h piece x) where
+module _ {S : Type 0} (R : Runner S) (g : Progress S) (h : Held) (piece ends : List ℕ) (x : Resolved) (cr : ResolvedIs h piece x) where
   module _ (code taken : ℕ) (e : x.case ≡ Completed code taken) where
-    pub fed_completed : (s : Standing S) (ends₁ : List ℕ) → SteppedBy R g (code_token code (h.len + taken)) ends s ends₁
-        → (r : Standing S) (k : Held) (ends' : List ℕ) → RestFedBy R s piece taken ends₁ r k ends' → FedBy R g h piece ends r k ends'
+    pub fed_completed : (s : Progress S) (ends₁ : List ℕ) → SteppedBy R g (code_token code (h.len + taken)) ends s ends₁
+        → (r : Progress S) (k : Held) (ends' : List ℕ) → RestFedBy R s piece taken ends₁ r k ends' → FedBy R g h piece ends r k ends'
     unfolding tokens_of tail_of
     fed_completed s ends₁ a r k ends' w =
         let c = completed h piece x cr code taken e in
@@ -140,23 +118,12 @@ module _ {S : Type 0} (R : Runner S) (g : Standing S) (h : Held) (piece ends : L
           few = omega (arith, ap (λ (l : List Token). length (joined l)) o, length-append (utf8 code) (joined (tokens_of (drop taken piece))), n);
         }
 
-    -- room for the rest
-    pub rest-space : Space g (h.len + length piece) (length ends) → (s : Standing S) (ends₁ : List ℕ) → SteppedBy R g (code_token code (h.len + taken)) ends s ends₁
-        → Space s (length piece - taken) (length ends₁)
-    rest-space sp s ends₁ y =
-        let c = completed h piece x cr code taken e in
-        let f = c.few in
-        let a = c.fits in
-        let n = h_long h piece x cr in
-        let t : Token = record { takes = h.len + taken; gives = utf8 code } in
-        space-left R g (t ∷ []) ends s ends₁ y (omega (arith, ap length (append-nil (utf8 code)))) (h.len + length piece) (length piece - taken) sp (omega arith)
-
   module _ (e : x.case ≡ Literal) where
     passed : LiteralIs (held_of h) piece
     passed = rw e at cr.is
 
-    pub fed_literal : (s : Standing S) (ends₁ : List ℕ) → SteppedBy R g (byte_tokens (held_of h)) ends s ends₁
-        → (r : Standing S) (k : Held) (ends' : List ℕ) → RestFedBy R s piece 0 ends₁ r k ends' → FedBy R g h piece ends r k ends'
+    pub fed_literal : (s : Progress S) (ends₁ : List ℕ) → SteppedBy R g (byte_tokens (held_of h)) ends s ends₁
+        → (r : Progress S) (k : Held) (ends' : List ℕ) → RestFedBy R s piece 0 ends₁ r k ends' → FedBy R g h piece ends r k ends'
     unfolding tokens_of tail_of
     fed_literal s ends₁ a r k ends' w =
         let c = passed in
@@ -171,7 +138,7 @@ module _ {S : Type 0} (R : Runner S) (g : Standing S) (h : Held) (piece ends : L
           few = omega (arith, ap (λ (l : List Token). length (joined l)) o, ap length j, length-append (held_of h) (joined (tokens_of piece)), h_long h piece x cr);
         }
 
-  pub after_literal : Space g (h.len + length piece) (length ends) → (s : Standing S) (ends₁ : List ℕ) → SteppedBy R g (byte_tokens (held_of h)) ends s ends₁ → Space s (length piece - 0) (length ends₁)
+  pub after_literal : Space g (h.len + length piece) (length ends) → (s : Progress S) (ends₁ : List ℕ) → SteppedBy R g (byte_tokens (held_of h)) ends s ends₁ → Space s (length piece - 0) (length ends₁)
   after_literal sp s ends₁ y =
       let n = h_long h piece x cr in
       let b = held_of h in
@@ -193,18 +160,3 @@ module _ {S : Type 0} (R : Runner S) (g : Standing S) (h : Held) (piece ends : L
           held = record { is = c.is ∙ sym c.holds; size = z ∙ ap length (sym c.holds); few = c.fine.few; long = j.long };
           few = omega (arith, ap (λ (l : List Token). length (joined l)) o, length-append (held_of h) piece, h_long h piece x cr);
         }
-
--- ---- a piece with nothing held
-
-module _ {S : Type 0} (R : Runner S) (g : Standing S) (h : Held) (piece ends : List ℕ) where
-  pub fed_fresh : h.len ≡ 0 → (r : Standing S) (k : Held) (ends' : List ℕ) → RestFedBy R g piece 0 ends r k ends' → FedBy R g h piece ends r k ends'
-  fed_fresh e r k ends' w =
-      let z : held_of h ++ piece ≡ piece = ap (λ (n : ℕ). take n h.bytes ++ piece) e in
-      record {
-        steps = subst (λ (l : List ℕ). SteppedBy R g (tokens_of l) ends r ends') (sym z) w.steps;
-        held = subst (λ (l : List ℕ). Holds k (tail_of l)) (sym z) w.held;
-        few = let f = w.few in omega (arith, ap (λ (l : List ℕ). length (joined (tokens_of l))) z);
-      }
-
-pub fresh_space : {S : Type 0} (g : Standing S) (h : Held) (piece : List ℕ) (m : ℕ) → Space g (h.len + length piece) m → Space g (length piece - 0) m
-fresh_space g h piece m s = space_less g (length piece - 0) (h.len + length piece) m (omega arith) s

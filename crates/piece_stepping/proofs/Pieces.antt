@@ -2,11 +2,9 @@
 use mathlib.Core.Path.{◌≡◌, refl, sym, ap, subst, ◌∙◌}
 use mathlib.Core.Bool.{Bool, true, false, true≢false}
 use mathlib.Core.List.{List, [], ◌++◌, append-nil, append_assoc}
-use Prim.Native.Nat.{ℕ, ◌+◌, ◌-◌, ◌^◌, ◌≤◌, ◌<◌}
+use Prim.Native.Nat.{ℕ, ◌+◌, ◌-◌, ◌≤◌, ◌<◌}
 use native.Mathlib.Omega.{arith}
 use lib.ListN.{length, take, drop, length-append, length-take, drop_of_length-le}
-use mir.Val.{Fits}
-use mir.Syntax.{w32}
 use borrow.Rule.Slice.PartMut.{mid_of}
 use Rattle.model.specs.References.{form_limit, Token, byte_tokens, joined}
 use Rattle.model.proofs.Decoding.{joined-append, joined_bytes, taken-bytes}
@@ -14,15 +12,16 @@ use Rattle.model.proofs.Places.{place-taken}
 use Rattle.model.proofs.Cuts.{out_held}
 use Rattle.piece_decoder.specs.declared.Chunk.{Chunk}
 use Rattle.piece_decoder.specs.Chunks.{InPlaceIs, ChunkIs}
-use Rattle.piece_stepping.specs.Stepping.{tokens_of, tail_of, Runner, Standing, SteppedBy, Space, LaidFits, LaidStepped, PartStepped, RestStepped}
-use Rattle.piece_stepping.proofs.Steps.{stepped-none, stepped-append, space-left, space_less}
+use Rattle.piece_stepping.specs.declared.Progress.{Progress}
+use Rattle.piece_stepping.specs.Stepping.{tokens_of, tail_of, Runner, SteppedBy, Space, LaidFits, LaidStepped, PartStepped, RestStepped}
+use Rattle.piece_stepping.proofs.Steps.{stepped-none, stepped-append, space-left}
 
 -- ---- a part of a piece: the text of its tokens is stepped over
 
-module _ {S : Type 0} (R : Runner S) (g : Standing S) (piece : List ℕ) (i : ℕ) (ends : List ℕ) where
+module _ {S : Type 0} (R : Runner S) (g : Progress S) (piece : List ℕ) (i : ℕ) (ends : List ℕ) where
   -- through a room
   pub room-stepped : (room : List ℕ) (f : Chunk) (room' marks' : List ℕ) → ChunkIs piece i room f room' marks'
-      → (took : ℕ) → took ≡ f.read - i → (s : Standing S) (ends' : List ℕ) → LaidStepped R g (mid_of 0 (f.written - 0) room') marks' f.marks took ends s ends'
+      → (took : ℕ) → took ≡ f.read - i → (s : Progress S) (ends' : List ℕ) → LaidStepped R g (mid_of 0 (f.written - 0) room') marks' f.marks took ends s ends'
       → PartStepped R g piece i ends s f.read f.held ends'
   unfolding tokens_of tail_of
   room-stepped room f room' marks' x took e s ends' y =
@@ -46,7 +45,7 @@ module _ {S : Type 0} (R : Runner S) (g : Standing S) (piece : List ℕ) (i : �
       }
 
   -- where it stands
-  pub place-stepped : (e : ℕ) → InPlaceIs piece i e → i < e → (s : Standing S) (ends' : List ℕ) → SteppedBy R g (byte_tokens (mid_of i (e - i) piece)) ends s ends'
+  pub place-stepped : (e : ℕ) → InPlaceIs piece i e → i < e → (s : Progress S) (ends' : List ℕ) → SteppedBy R g (byte_tokens (mid_of i (e - i) piece)) ends s ends'
       → PartStepped R g piece i ends s e false ends'
   unfolding tokens_of tail_of
   place-stepped e x h s ends' y =
@@ -64,51 +63,29 @@ module _ {S : Type 0} (R : Runner S) (g : Standing S) (piece : List ℕ) (i : �
         all_held = λ q. absurd (true≢false (sym q));
       }
 
--- and there is room for it
-module _ {S : Type 0} (g : Standing S) (piece : List ℕ) (i m : ℕ) (space : Space g (length piece - i) m) where
-  module _ (room : List ℕ) (f : Chunk) (room' marks' : List ℕ) (x : ChunkIs piece i room f room' marks') where
-    written_is : length (mid_of 0 (f.written - 0) room') ≡ f.written
-    written_is = let w = x.within in omega (arith, length-take (f.written - 0) room', x.long)
+-- and a chunk's marks are small enough
+module _ {S : Type 0} (g : Progress S) (piece : List ℕ) (i m : ℕ) (space : Space g (length piece - i) m) (room : List ℕ) (f : Chunk) (room' marks' : List ℕ) (x : ChunkIs piece i room f room' marks') where
+  written_is : length (mid_of 0 (f.written - 0) room') ≡ f.written
+  written_is = let w = x.within in omega (arith, length-take (f.written - 0) room', x.long)
 
-    text-is : f.written ≡ length (joined x.tokens)
-    text-is = let w = x.within in omega (arith, ap length x.text, length-take f.written room', x.long)
+  text-is : f.written ≡ length (joined x.tokens)
+  text-is = let w = x.within in omega (arith, ap length x.text, length-take f.written room', x.long)
 
-    pub chunk_space : Space g (length (mid_of 0 (f.written - 0) room')) m
-    chunk_space =
-        let c = x.few in
-        let o = x.hands_on.fits in
-        space_less g (length (mid_of 0 (f.written - 0) room')) (length piece - i) m (omega (arith, written_is)) space
-
-    pub chunk_fits : (raw : ℕ) → raw ≡ g.raw → LaidFits (mid_of 0 (f.written - 0) room') marks' f.marks raw
-    chunk_fits raw e =
-        let o = x.hands_on.fits in
-        let t = x.hands_on.takes in
-        let s = space.raw-small in
-        record {
-          inside = x.few-marks;
-          small = λ q a b.
-              let l : q ≤ length (joined x.tokens) = omega (arith, written_is, text-is) in
-              omega (arith, x.marked.within q a l, place-taken x.tokens q a l);
-        }
-
-    -- the raw bytes that it takes, and the raw count after it, as numbers of 32 bits
-    pub chunk_moves : i ≤ f.read
-    chunk_moves = let o = x.hands_on.takes in omega arith
-
-    pub chunk_read : Fits w32 (f.read - i)
-    chunk_read = let s = space.raw-small in let o = x.hands_on.fits in omega arith
-
-    pub chunk_raw : (raw took : ℕ) → raw ≡ g.raw → took ≡ f.read - i → raw + took < 2 ^ 32
-    chunk_raw raw took r e = let s = space.raw-small in let o = x.hands_on.fits in omega arith
-
-  pub place-space : (e : ℕ) → InPlaceIs piece i e → Space g (length (mid_of i (e - i) piece)) m
-  place-space e x =
+  pub chunk_fits : (raw : ℕ) → raw ≡ g.raw → LaidFits (mid_of 0 (f.written - 0) room') marks' f.marks raw
+  chunk_fits raw e =
       let o = x.hands_on.fits in
-      space_less g (length (mid_of i (e - i) piece)) (length piece - i) m (omega (arith, length-take (e - i) (drop i piece))) space
+      let t = x.hands_on.takes in
+      let s = space.raw-small in
+      record {
+        inside = x.few-marks;
+        small = λ q a b.
+            let l : q ≤ length (joined x.tokens) = omega (arith, written_is, text-is) in
+            omega (arith, x.marked.within q a l, place-taken x.tokens q a l);
+      }
 
 -- ---- the rest of a piece
 
-pub record Resting {S : Type 0} (R : Runner S) (g₀ : Standing S) (piece : List ℕ) (from : ℕ) (ends₀ : List ℕ) (g : Standing S) (i : ℕ) (ends : List ℕ) : Type 0 where
+pub record Resting {S : Type 0} (R : Runner S) (g₀ : Progress S) (piece : List ℕ) (from : ℕ) (ends₀ : List ℕ) (g : Progress S) (i : ℕ) (ends : List ℕ) : Type 0 where
   pub done : List Token
   pub steps : SteppedBy R g₀ done ends₀ g ends
   pub lets_out : tokens_of (drop from piece) ≡ done ++ tokens_of (drop i piece)
@@ -127,12 +104,12 @@ pub held-silent : (xs : List ℕ) → tail_of xs ≡ xs → tokens_of xs ≡ []
 unfolding tokens_of tail_of
 held-silent xs e = out_held form_limit xs e
 
-module _ {S : Type 0} (R : Runner S) (g₀ : Standing S) (piece : List ℕ) (from : ℕ) (ends₀ : List ℕ) where
+module _ {S : Type 0} (R : Runner S) (g₀ : Progress S) (piece : List ℕ) (from : ℕ) (ends₀ : List ℕ) where
   pub resting : from ≤ length piece → Space g₀ (length piece - from) (length ends₀) → Resting R g₀ piece from ends₀ g₀ from ends₀
   resting w s =
       record { done = []; steps = stepped-none R g₀ ends₀; lets_out = refl; holds = refl; within = w; few = omega arith; long = refl; space = s }
 
-  module _ {g : Standing S} {i : ℕ} {ends : List ℕ} (w : Resting R g₀ piece from ends₀ g i ends) {r : Standing S} {read : ℕ} {held : Bool} {ends' : List ℕ}
+  module _ {g : Progress S} {i : ℕ} {ends : List ℕ} (w : Resting R g₀ piece from ends₀ g i ends) {r : Progress S} {read : ℕ} {held : Bool} {ends' : List ℕ}
       (x : PartStepped R g piece i ends r read held ends') where
     both : SteppedBy R g₀ (w.done ++ x.tokens) ends₀ r ends'
     both = stepped-append R g₀ w.done x.tokens ends₀ g ends r ends' w.steps x.steps
@@ -174,7 +151,7 @@ module _ {S : Type 0} (R : Runner S) (g₀ : Standing S) (piece : List ℕ) (fro
           space = space-left R g x.tokens ends r ends' x.steps x.few (length piece - i) (length piece - read) w.space (omega arith);
         }
 
-  module _ {g : Standing S} {i : ℕ} {ends : List ℕ} (w : Resting R g₀ piece from ends₀ g i ends) where
+  module _ {g : Progress S} {i : ℕ} {ends : List ℕ} (w : Resting R g₀ piece from ends₀ g i ends) where
     pub rest_over : length piece ≤ i → RestStepped R g₀ piece from ends₀ g i ends
     rest_over h =
         let n : drop i piece ≡ [] = drop_of_length-le piece h in

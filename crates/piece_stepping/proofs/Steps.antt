@@ -16,43 +16,44 @@ use Rattle.model.proofs.Decoding.{joined-append, joined_bytes, taken-append, tak
 use Rattle.model.proofs.Places.{Rises, placed-length, flat_append, flat-length, entries_append}
 use Rattle.entry_list.specs.Pairing.{even_place, uneven_place, EvenFits, UnevenFits, Paired}
 use Rattle.entry_list.proofs.Runs as Runs
-use Rattle.piece_stepping.specs.Stepping.{Runner, Standing, entries_from, PairsRan, SteppedBy, Space, LaidFits, LaidRan, LaidStepped}
+use Rattle.piece_stepping.specs.declared.Progress.{Progress}
+use Rattle.piece_stepping.specs.declared.Scanned.{Scanned}
+use Rattle.piece_stepping.specs.Stepping.{Runner, TextScanned, entries_from, PairsRan, SteppedBy, Space, LaidFits, LaidRan, LaidStepped}
 
 module _ {S : Type 0} (R : Runner S) where
   -- ---- a run, and then its ends as pairs
 
-  module _ (d : S) (at : ℕ) (text list : List ℕ) (room : pair_numbers * length text ≤ length list) (d' : S) (n : ℕ) (list₁ : List ℕ) (state : d' ≡ R.after d text)
-      (count : n ≡ length (R.ends d at text)) (few : n ≤ length text) (is : list₁ ≡ sets list 0 (R.ends d at text)) where
-    pub even-fits : (raw : ℕ) → raw + length text < 2 ^ 32 → EvenFits at raw n list₁
-    even-fits raw h = Runs.even-fits at (length text) (R.ends d at text) list list₁ n (R.ends-rise d at text) count few room is raw h
+  module _ (d : S) (at : ℕ) (text list : List ℕ) (room : pair_numbers * length text ≤ length list) (r : Scanned S) (list₁ : List ℕ) (x : TextScanned R d at text list r list₁) where
+    pub even-fits : (raw : ℕ) → raw + length text < 2 ^ 32 → EvenFits at raw r.count list₁
+    even-fits raw h = Runs.even-fits at (length text) (R.ends d at text) list list₁ r.count (R.ends-rise d at text) x.count x.few room x.list raw h
 
-    pub uneven_fits : (raw : ℕ) (marks : List ℕ) (m : ℕ) → LaidFits text marks m raw → UnevenFits at raw marks m n list₁
-    uneven_fits raw marks m f = Runs.uneven_fits at (length text) (R.ends d at text) list list₁ n (R.ends-rise d at text) count few room is raw marks m f.inside f.small
+    pub uneven_fits : (raw : ℕ) (marks : List ℕ) (m : ℕ) → LaidFits text marks m raw → UnevenFits at raw marks m r.count list₁
+    uneven_fits raw marks m f = Runs.uneven_fits at (length text) (R.ends d at text) list list₁ r.count (R.ends-rise d at text) x.count x.few room x.list raw marks m f.inside f.small
 
     -- bytes that go out as they came
-    pub even-ran : (raw : ℕ) (list₂ : List ℕ) → Paired (even_place at raw) n list₁ list₂ → PairsRan R d at raw (byte_tokens text) list d' n list₂
+    pub even-ran : (raw : ℕ) (list₂ : List ℕ) → Paired (even_place at raw) r.count list₁ list₂ → PairsRan R d at raw (byte_tokens text) list r.d r.count list₂
     even-ran raw list₂ p =
         let j : joined (byte_tokens text) ≡ text = joined_bytes text in
-        let l = Runs.pairs-even at (length text) (R.ends d at text) list list₁ n (R.ends-rise d at text) count few room is raw text refl list₂ p in
+        let l = Runs.pairs-even at (length text) (R.ends d at text) list list₁ r.count (R.ends-rise d at text) x.count x.few room x.list raw text refl list₂ p in
         record {
-          state = state ∙ ap (R.after d) (sym j);
-          count = count ∙ ap (λ (t : List ℕ). length (R.ends d at t)) (sym j);
+          state = x.state ∙ ap (R.after d) (sym j);
+          count = x.count ∙ ap (λ (t : List ℕ). length (R.ends d at t)) (sym j);
           few = omega (arith, ap length j);
           list-is = l ∙ ap (λ (t : List ℕ). sets list 0 (flat (entries_by at raw (byte_tokens text) (R.ends d at t)))) (sym j);
         }
 
     -- a text with its marks
-    pub uneven_ran : (raw : ℕ) (marks : List ℕ) (m : ℕ) (list₂ : List ℕ) → Paired (uneven_place at raw marks m) n list₁ list₂ → LaidRan R d at raw text marks m list d' n list₂
+    pub uneven_ran : (raw : ℕ) (marks : List ℕ) (m : ℕ) (list₂ : List ℕ) → Paired (uneven_place at raw marks m) r.count list₁ list₂ → LaidRan R d at raw text marks m list r.d r.count list₂
     uneven_ran raw marks m list₂ p =
         record {
-          few = few;
-          long = p.long ∙ ap length is ∙ length-sets list 0 (R.ends d at text);
-          ran = λ ts x.
-              let j = x.text-is in
-              let l = Runs.pairs_uneven at (length text) (R.ends d at text) list list₁ n (R.ends-rise d at text) count few room is raw marks m ts x.marked (ap length j) list₂ p in
+          few = x.few;
+          long = p.long ∙ ap length x.list ∙ length-sets list 0 (R.ends d at text);
+          ran = λ ts y.
+              let j = y.text-is in
+              let l = Runs.pairs_uneven at (length text) (R.ends d at text) list list₁ r.count (R.ends-rise d at text) x.count x.few room x.list raw marks m ts y.marked (ap length j) list₂ p in
               record {
-                state = state ∙ ap (R.after d) j;
-                count = count ∙ ap (λ (t : List ℕ). length (R.ends d at t)) j;
+                state = x.state ∙ ap (R.after d) j;
+                count = x.count ∙ ap (λ (t : List ℕ). length (R.ends d at t)) j;
                 few = omega (arith, ap length j);
                 list-is = l ∙ ap (λ (t : List ℕ). sets list 0 (flat (entries_by at raw ts (R.ends d at t)))) j;
               };
@@ -64,7 +65,7 @@ module _ {S : Type 0} (R : Runner S) where
   entries_long d at raw ts =
       flat-length (entries_from R d at raw ts) ∙ ap (λ (k : ℕ). pair_numbers * k) (placed-length _ (R.ends d at (joined ts)))
 
-  module _ (g : Standing S) (ends : List ℕ) where
+  module _ (g : Progress S) (ends : List ℕ) where
     ran-stepped : (ts : List Token) → pair_numbers * (g.count + length (joined ts)) ≤ length ends → (d' : S) (n : ℕ) (part : List ℕ)
         → PairsRan R g.d g.at g.raw ts (mid_of (pair_numbers * g.count) (length ends - pair_numbers * g.count) ends) d' n part
         → (at' raw' : ℕ) → at' ≡ g.at + length (joined ts) → raw' ≡ g.raw + taken ts
@@ -110,7 +111,7 @@ module _ {S : Type 0} (R : Runner S) where
 
   -- ---- none, and one run after another
 
-  pub stepped-none : (g : Standing S) (ends : List ℕ) → SteppedBy R g [] ends g ends
+  pub stepped-none : (g : Progress S) (ends : List ℕ) → SteppedBy R g [] ends g ends
   stepped-none g ends =
       let n = R.ends-none g.d g.at in
       record {
@@ -123,7 +124,7 @@ module _ {S : Type 0} (R : Runner S) where
         list = sym (ap (λ (es : List ℕ). sets ends (pair_numbers * g.count) (flat (entries_by g.at g.raw [] es))) n);
       }
 
-  pub stepped-append : (g : Standing S) (xs ys : List Token) (ends : List ℕ) (h : Standing S) (ends' : List ℕ) (k : Standing S) (ends'' : List ℕ)
+  pub stepped-append : (g : Progress S) (xs ys : List Token) (ends : List ℕ) (h : Progress S) (ends' : List ℕ) (k : Progress S) (ends'' : List ℕ)
       → SteppedBy R g xs ends h ends' → SteppedBy R h ys ends' k ends'' → SteppedBy R g (xs ++ ys) ends k ends''
   stepped-append g xs ys ends h ends' k ends'' a b =
       let j = joined-append xs ys in
@@ -166,7 +167,7 @@ module _ {S : Type 0} (R : Runner S) where
       }
 
   -- room for what is left
-  pub space-left : (g : Standing S) (ts : List Token) (ends : List ℕ) (r : Standing S) (ends' : List ℕ) → SteppedBy R g ts ends r ends' → length (joined ts) ≤ taken ts
+  pub space-left : (g : Progress S) (ts : List Token) (ends : List ℕ) (r : Progress S) (ends' : List ℕ) → SteppedBy R g ts ends r ends' → length (joined ts) ≤ taken ts
       → (k k' : ℕ) → Space g k (length ends) → taken ts + k' ≤ k → Space r k' (length ends')
   space-left g ts ends r ends' x few k k' s h =
       let a = x.few in
@@ -179,18 +180,6 @@ module _ {S : Type 0} (R : Runner S) where
       let s₃ = s.count_small in
       record { room = omega arith; count_small = omega arith; small = omega arith; raw-small = omega arith }
 
--- room for fewer
-pub space_less : {S : Type 0} (g : Standing S) (j k n : ℕ) → j ≤ k → Space g k n → Space g j n
-space_less g j k n h s =
-    let s₀ = s.room in
-    let s₁ = s.small in
-    let s₂ = s.raw-small in
-    let s₃ = s.count_small in
-    record { room = omega arith; count_small = omega arith; small = omega arith; raw-small = omega arith }
-
 -- a count of pairs, as a number of 64 bits
-pub stored_bytes : {S : Type 0} (g : Standing S) (c n m : ℕ) (text : List ℕ) → Space g (length text) m → c ≡ g.count → n ≤ length (joined (byte_tokens text)) → Fits w64 (c + n)
+pub stored_bytes : {S : Type 0} (g : Progress S) (c n m : ℕ) (text : List ℕ) → Space g (length text) m → c ≡ g.count → n ≤ length (joined (byte_tokens text)) → Fits w64 (c + n)
 stored_bytes g c n m text s e h = let k = s.count_small in omega (arith, ap length (joined_bytes text))
-
-pub stored_laid : {S : Type 0} (g : Standing S) (c n m : ℕ) (text : List ℕ) → Space g (length text) m → c ≡ g.count → n ≤ length text → Fits w64 (c + n)
-stored_laid g c n m text s e h = let k = s.count_small in omega arith

@@ -1,4 +1,4 @@
--- What a piece lets out, stepped over, and what it holds back, for any automaton: what the contracts of steps in one word and in four have in common. Assumes nothing.
+-- What a piece lets out, stepped over, and what it holds back, for any automaton. Assumes nothing.
 use Rattle.std.specs.Prelude.{◌≡◌, Bool, true, false, List, [], ◌∷◌, ◌++◌, ℕ, ◌+◌, ◌*◌, ◌^◌, ◌≤◌, ◌<◌, length, drop}
 use Rattle.std.proofs.lemmas.List.Edits.{sets}
 use Rattle.model.specs.References.{form_limit, held_most, utf8, Token, taken, joined, held_tail, out_tokens}
@@ -8,6 +8,8 @@ use Rattle.entry_list.specs.Marks.{mark_numbers, marked_place, Marked}
 use Rattle.reference_reader.specs.Reader.{code_limit}
 use Rattle.piece_decoder.specs.declared.held.Held.{Held}
 use Rattle.piece_decoder.specs.Held.{held_of}
+use Rattle.piece_stepping.specs.declared.Progress.{Progress}
+use Rattle.piece_stepping.specs.declared.Scanned.{Scanned}
 
 -- The tokens that raw bytes let out, and the tail that they hold back: the model's at this paper's limit, shut.
 unfoldable pub tokens_of : List ℕ → List Token
@@ -28,12 +30,12 @@ pub record Runner (S : Type 0) : Type 0 where
   pub ends-append : (d : S) (at : ℕ) (xs ys : List ℕ) → ends d at (xs ++ ys) ≡ ends d at xs ++ ends (after d xs) (at + length xs) ys
   pub ends-rise : (d : S) (at : ℕ) (xs : List ℕ) → Rises at (at + length xs) (ends d at xs)
 
--- Where a call stands: the state, the counts of decoded and of raw bytes that were read, and the count of pairs stored.
-pub record Standing (S : Type 0) : Type 0 where
-  pub d : S
-  pub at : ℕ
-  pub raw : ℕ
-  pub count : ℕ
+-- A text scanned from a state: the state after it, and its ends at the list's front.
+pub record TextScanned {S : Type 0} (R : Runner S) (d : S) (at : ℕ) (text ends : List ℕ) (r : Scanned S) (ends' : List ℕ) : Type 0 where
+  pub state : r.d ≡ R.after d text
+  pub count : r.count ≡ length (R.ends d at text)
+  pub few : r.count ≤ length text
+  pub list : ends' ≡ sets ends 0 (R.ends d at text)
 
 -- ---- tokens stepped over
 
@@ -49,7 +51,7 @@ pub record PairsRan {S : Type 0} (R : Runner S) (d : S) (at raw : ℕ) (ts : Lis
   pub list-is : list' ≡ sets list 0 (flat (entries_from R d at raw ts))
 
 -- from where a call stands, with its pairs after those stored
-pub record SteppedBy {S : Type 0} (R : Runner S) (g : Standing S) (ts : List Token) (ends : List ℕ) (r : Standing S) (ends' : List ℕ) : Type 0 where
+pub record SteppedBy {S : Type 0} (R : Runner S) (g : Progress S) (ts : List Token) (ends : List ℕ) (r : Progress S) (ends' : List ℕ) : Type 0 where
   pub state : r.d ≡ R.after g.d (joined ts)
   pub place : r.at ≡ g.at + length (joined ts)
   pub raw-place : r.raw ≡ g.raw + taken ts
@@ -59,7 +61,7 @@ pub record SteppedBy {S : Type 0} (R : Runner S) (g : Standing S) (ts : List Tok
   pub list : ends' ≡ sets ends (pair_numbers * g.count) (flat (entries_from R g.d g.at g.raw ts))
 
 -- Room for all that k raw bytes may give: pairs in a list of n numbers, and counts of 32 bits.
-pub record Space {S : Type 0} (g : Standing S) (k n : ℕ) : Type 0 where
+pub record Space {S : Type 0} (g : Progress S) (k n : ℕ) : Type 0 where
   pub room : pair_numbers * (g.count + k) ≤ n
   pub count_small : g.count + k < 2 ^ 32
   pub small : g.at + k < 2 ^ 32
@@ -84,7 +86,7 @@ pub record LaidRan {S : Type 0} (R : Runner S) (d : S) (at raw : ℕ) (text mark
   pub long : length list' ≡ length list
 
 -- and a step over it, where it took so many raw bytes
-pub record LaidStepped {S : Type 0} (R : Runner S) (g : Standing S) (text marks : List ℕ) (m took : ℕ) (ends : List ℕ) (r : Standing S) (ends' : List ℕ) : Type 0 where
+pub record LaidStepped {S : Type 0} (R : Runner S) (g : Progress S) (text marks : List ℕ) (m took : ℕ) (ends : List ℕ) (r : Progress S) (ends' : List ℕ) : Type 0 where
   pub steps : (ts : List Token) → Laid ts text marks m → took ≡ taken ts → SteppedBy R g ts ends r ends'
   pub long : length ends' ≡ length ends
 
@@ -100,7 +102,7 @@ pub record CodeFits (code k : ℕ) : Type 0 where
 -- ---- a piece
 
 -- a part of a piece: what is let out, and what is left
-pub record PartStepped {S : Type 0} (R : Runner S) (g : Standing S) (piece : List ℕ) (i : ℕ) (ends : List ℕ) (r : Standing S) (read : ℕ) (held : Bool) (ends' : List ℕ) : Type 0 where
+pub record PartStepped {S : Type 0} (R : Runner S) (g : Progress S) (piece : List ℕ) (i : ℕ) (ends : List ℕ) (r : Progress S) (read : ℕ) (held : Bool) (ends' : List ℕ) : Type 0 where
   pub tokens : List Token
   pub steps : SteppedBy R g tokens ends r ends'
   pub lets_out : tokens_of (drop i piece) ≡ tokens ++ tokens_of (drop read piece)
@@ -112,7 +114,7 @@ pub record PartStepped {S : Type 0} (R : Runner S) (g : Standing S) (piece : Lis
   pub all_held : held ≡ true → tail_of (drop read piece) ≡ drop read piece
 
 -- the rest of a piece: all that it lets out is stepped over, and what it holds back is its end
-pub record RestStepped {S : Type 0} (R : Runner S) (g : Standing S) (piece : List ℕ) (from : ℕ) (ends : List ℕ) (r : Standing S) (kept : ℕ) (ends' : List ℕ) : Type 0 where
+pub record RestStepped {S : Type 0} (R : Runner S) (g : Progress S) (piece : List ℕ) (from : ℕ) (ends : List ℕ) (r : Progress S) (kept : ℕ) (ends' : List ℕ) : Type 0 where
   pub steps : SteppedBy R g (tokens_of (drop from piece)) ends r ends'
   pub holds : tail_of (drop from piece) ≡ drop kept piece
   pub fits : kept ≤ length piece
@@ -126,13 +128,13 @@ pub record Holds (h : Held) (tail : List ℕ) : Type 0 where
   pub long : length h.bytes ≡ form_limit
 
 -- the same, and that end is held
-pub record RestFedBy {S : Type 0} (R : Runner S) (g : Standing S) (piece : List ℕ) (from : ℕ) (ends : List ℕ) (r : Standing S) (h : Held) (ends' : List ℕ) : Type 0 where
+pub record RestFedBy {S : Type 0} (R : Runner S) (g : Progress S) (piece : List ℕ) (from : ℕ) (ends : List ℕ) (r : Progress S) (h : Held) (ends' : List ℕ) : Type 0 where
   pub steps : SteppedBy R g (tokens_of (drop from piece)) ends r ends'
   pub held : Holds h (tail_of (drop from piece))
   pub few : length (joined (tokens_of (drop from piece))) + h.len + from ≤ length piece
 
 -- a piece after held bytes: all that both let out is stepped over, and their tail is held
-pub record FedBy {S : Type 0} (R : Runner S) (g : Standing S) (h : Held) (piece ends : List ℕ) (r : Standing S) (k : Held) (ends' : List ℕ) : Type 0 where
+pub record FedBy {S : Type 0} (R : Runner S) (g : Progress S) (h : Held) (piece ends : List ℕ) (r : Progress S) (k : Held) (ends' : List ℕ) : Type 0 where
   pub steps : SteppedBy R g (tokens_of (held_of h ++ piece)) ends r ends'
   pub held : Holds k (tail_of (held_of h ++ piece))
   pub few : length (joined (tokens_of (held_of h ++ piece))) + k.len ≤ h.len + length piece

@@ -8,7 +8,6 @@ use lib.Dec.{ltb, ltb→lt}
 use lib.ListN.{length, take}
 use lib.Seq.{length-take-le}
 use borrow.Author.Tests.{ltb-false, lt-ltb, le-ltb, le-leb, lt-leb}
-use Rattle.model.specs.RefusalNumbers.{too_short, too_much, already_finished}
 use Rattle.model.specs.NumberedAnswers.{text_limit}
 use Rattle.model.specs.References.{form_limit, held_most, can_grow, held_tail}
 use Rattle.model.specs.RawPlaces.{pair_numbers}
@@ -17,12 +16,13 @@ use Rattle.model.proofs.Forms.{not_none}
 use Rattle.model.proofs.Borders.{ref_growing}
 use Rattle.reference_reader.specs.declared.Reference.{Reference}
 use Rattle.reference_reader.specs.declared.Reference.TheVariants.{Decoded, Literal, Incomplete}
+use Rattle.answers.specs.declared.Refusal.TheVariants.{TooShort, TooMuch, AlreadyFinished}
 use Rattle.piece_decoder.specs.declared.held.Held.{Held}
 use Rattle.reference_reader.specs.Reader.{ReadIs}
 use Rattle.piece_decoder.specs.Held.{held_of}
 use Rattle.model.proofs.Cuts.{held_open}
 use Rattle.reference_reader.proofs.Readings.{decoded_told, literal_told, incomplete_told}
-use Rattle.plan_part.specs.PlanPart.{plan_length, finished_of, raw_of, decoded_of, held_count_of, held_bytes_of, is_tail, possible_plan, PlanPossibleIs, LoadFine, LoadIs, HeldFits, plan_refusal, PlanRefusedIs}
+use Rattle.plan_part.specs.PlanPart.{plan_length, finished_of, raw_of, decoded_of, held_count_of, held_bytes_of, is_tail, possible_plan, PlanPossibleIs, LoadFine, LoadIs, HeldFits, plan_refusal, PlanLetsIn, PlanTurnsDown}
 
 -- ---- `tail_fits`
 
@@ -46,16 +46,24 @@ module _ (h : Held) where
     tested : is_tail (held_of h) ≡ can_grow form_limit (held_of h)
     tested = not_empty (held_of h) (λ e. some (sym (length-take-le h.len h.bytes (omega (arith, f.long, f.few))) ∙ e))
 
-    pub tail-decoded : (code k : ℕ) → r ≡ Decoded code k → false ≡ is_tail (held_of h)
+    tail-decoded : (code k : ℕ) → r ≡ Decoded code k → false ≡ is_tail (held_of h)
     tail-decoded code k e =
         let g = decoded_told form_limit (held_of h) code k (sym e ∙ x.is) in
         sym (tested ∙ T_false (can_grow form_limit (held_of h)) (λ t. not_none (sym (ref_growing form_limit (held_of h) t) ∙ g)))
 
-    pub tail_literal : r ≡ Literal → false ≡ is_tail (held_of h)
+    tail_literal : r ≡ Literal → false ≡ is_tail (held_of h)
     tail_literal e = sym (tested ∙ (literal_told form_limit (held_of h) (sym e ∙ x.is)).1)
 
     pub tail_incomplete : r ≡ Incomplete → true ≡ is_tail (held_of h)
     tail_incomplete e = sym (tested ∙ (incomplete_told form_limit (held_of h) (sym e ∙ x.is)).1)
+
+    pub tail_other : (r ≡ Incomplete → ⊥) → false ≡ is_tail (held_of h)
+    tail_other n = go r refl
+      where
+        go : (q : Reference) → r ≡ q → false ≡ is_tail (held_of h)
+        go (Decoded code k) e = tail-decoded code k e
+        go Literal e = tail_literal e
+        go Incomplete e = absurd (n e)
 
 -- ---- `possible`, `refused`: a law for each rung
 
@@ -101,17 +109,14 @@ module _ (p : List ℕ) where
                 }
 
 module _ (p : List ℕ) (m n : ℕ) where
-  nonzero : (k : ℕ) → (k ≡ 0 → ⊥) → k ≡ plan_refusal p m n → PlanRefusedIs p m n k
-  nonzero k f e = record { is = e; accepts = λ z. absurd (f z) }
-
-  pub already_finished_lem : 0 < finished_of p → PlanRefusedIs p m n already_finished
+  pub already_finished_lem : 0 < finished_of p → PlanTurnsDown p m n AlreadyFinished
   unfolding plan_refusal
-  already_finished_lem a = nonzero already_finished (λ q. omega arith) (simp (lt-ltb _ _ a))
+  already_finished_lem a = record { is = simp (lt-ltb _ _ a) }
 
   module _ (a : finished_of p ≤ 0) where
-    pub too_much_lem : ltb text_limit (raw_of p + m) ≡ true → PlanRefusedIs p m n too_much
+    pub too_much_lem : ltb text_limit (raw_of p + m) ≡ true → PlanTurnsDown p m n TooMuch
     unfolding plan_refusal
-    too_much_lem b = nonzero too_much (λ q. omega arith) (simp (le-ltb _ _ a, b))
+    too_much_lem b = record { is = simp (le-ltb _ _ a, b) }
 
     module _ (b : ltb text_limit (raw_of p + m) ≡ false) where
       -- what the list holds in pairs is compared with the pairs that are needed
@@ -125,14 +130,14 @@ module _ (p : List ℕ) (m n : ℕ) where
           let k : pair_numbers * (m + held_most form_limit) ≤ n = omega arith in
           le-ltb _ _ k
 
-      pub too_short_lem : ltb (n / pair_numbers) (m + held_most form_limit) ≡ true → PlanRefusedIs p m n too_short
+      pub too_short_lem : ltb (n / pair_numbers) (m + held_most form_limit) ≡ true → PlanTurnsDown p m n TooShort
       unfolding plan_refusal
-      too_short_lem c = nonzero too_short (λ q. omega arith) (simp (le-ltb _ _ a, b, in_pairs true c))
+      too_short_lem c = record { is = simp (le-ltb _ _ a, b, in_pairs true c) }
 
-      pub accepted : ltb (n / pair_numbers) (m + held_most form_limit) ≡ false → PlanRefusedIs p m n 0
+      pub accepted : ltb (n / pair_numbers) (m + held_most form_limit) ≡ false → PlanLetsIn p m n
       unfolding plan_refusal
       accepted c =
           record {
             is = simp (le-ltb _ _ a, b, in_pairs false c);
-            accepts = λ q. record { going = omega arith; small = ltb-false _ _ b; room = ltb-false _ _ (in_pairs false c) };
+            accepts = record { going = omega arith; small = ltb-false _ _ b; room = ltb-false _ _ (in_pairs false c) };
           }

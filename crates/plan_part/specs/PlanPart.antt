@@ -5,6 +5,8 @@ use Rattle.model.specs.NumberedAnswers.{text_limit}
 use Rattle.model.specs.References.{form_limit, held_most, held_tail, can_grow}
 use Rattle.model.specs.RawPlaces.{pair_numbers}
 use Rattle.model.specs.PlainScan.{refusal_for}
+use Rattle.answers.specs.declared.Refusal.{Refusal}
+use Rattle.answers.specs.Answers.{number_of}
 use Rattle.piece_decoder.specs.declared.held.Held.{Held}
 use Rattle.piece_decoder.specs.Held.{held_of}
 
@@ -155,6 +157,10 @@ pub record PlanAccepts (p : List ℕ) (k n : ℕ) : Type 0 where
   pub small : raw_of p + k ≤ text_limit
   pub room : pair_numbers * (k + held_most form_limit) ≤ n
 
-pub record PlanRefusedIs (p : List ℕ) (k n r : ℕ) : Type 0 where
-  pub is : r ≡ plan_refusal p k n
-  pub accepts : r ≡ 0 → PlanAccepts p k n
+-- A call that nothing refuses, or one that is refused, by the model's number.
+pub record PlanLetsIn (p : List ℕ) (k n : ℕ) : Type 0 where
+  pub is : plan_refusal p k n ≡ 0
+  pub accepts : PlanAccepts p k n
+
+pub record PlanTurnsDown (p : List ℕ) (k n : ℕ) (x : Refusal) : Type 0 where
+  pub is : plan_refusal p k n ≡ number_of x

@@ -2,11 +2,12 @@
 // held back. It knows no rule, so that one such part serves any number of them.
 #![tactic(auto)]
 
-ghost use Rattle.std.specs.Prelude.{◌≡◌, ◌<◌, ◌^◌, length};
+ghost use Rattle.std.specs.Prelude.{◌≡◌, ◌<◌, ◌^◌, length, MatchResult};
 ghost use Rattle.std.proofs.lemmas.List.Edits.{sets};
 ghost use Rattle.piece_decoder.specs.Held.{held_of};
-ghost use Rattle.plan_part.specs.PlanPart.{plan_length, held_at, held_words, held_byte_of, is_tail, BytePlace, LoadFine, LoadIs, PlanPossibleIs, PlanPossible, PlanRefusedIs, HeldFits, Widened, HeldByteIs, PackFine, Packed, words_of, plan_fields};
+ghost use Rattle.plan_part.specs.PlanPart.{plan_length, held_at, held_words, held_byte_of, is_tail, BytePlace, LoadFine, LoadIs, PlanPossibleIs, PlanPossible, PlanLetsIn, PlanTurnsDown, HeldFits, Widened, HeldByteIs, PackFine, Packed, words_of, plan_fields};
 
+use answers::Refusal;
 use limits::{FORM_LIMIT, HELD_MOST, PAIR};
 use piece_decoder::held::Held;
 use reference_reader::Reference;
@@ -45,10 +46,8 @@ pub fn load(part: &[u64]) -> Held
 {
     let n = part[HELD] as usize;
     let mut t = [0u8; FORM_LIMIT];
-    let mut j = 0;
-    while j < n {
+    for j in 0..n {
         t[j] = loaded_byte(part, j);
-        j += 1;
     }
     Held { bytes: t, len: n }
 }
@@ -63,18 +62,10 @@ fn tail_fits(h: Held) -> bool
         return true;
     }
     let t = h.bytes;
-    let found = reference_reader::read_reference(&t[..n]);
-    match found {
-        Reference::Decoded(_, _) => {
-            return false;
-        }
-        Reference::Literal => {
-            return false;
-        }
-        Reference::Incomplete => {
-            return true;
-        }
-    }
+    matches!(
+        reference_reader::read_reference(&t[..n]),
+        Reference::Incomplete
+    )
 }
 
 // Whether the part is possible.
@@ -101,32 +92,32 @@ pub fn possible(part: &[u64]) -> bool
     tail_fits(h)
 }
 
-// The number of the refusal of a call with a piece and a list of these lengths, or 0. The list is counted in pairs, as
-// the numbers that it needs may be past 64 bits.
-pub fn refused(part: &[u64], piece: usize, list: usize) -> u32
+// Whether a call with a piece and a list of these lengths is let in, or why not. The list is counted in pairs, as the numbers that it needs
+// may be past 64 bits.
+pub fn check_call(part: &[u64], piece: usize, list: usize) -> Result<(), Refusal>
     requires plan_possible { PlanPossible part.now }
     requires piece_bound { piece < 2 ^ 63 }
-    ensures { PlanRefusedIs part.now piece list result }
+    ensures { MatchResult result (λ _. PlanLetsIn part.now piece list) (PlanTurnsDown part.now piece list) }
 {
     if part[FINISHED] > 0 {
-        return answers::ALREADY_FINISHED;
+        return Err(Refusal::AlreadyFinished);
     }
     let over = part[RAW] + piece as u64 > TEXT_LIMIT;
     let short = list / PAIR < piece + HELD_MOST;
     if over {
-        return answers::TOO_MUCH;
+        return Err(Refusal::TooMuch);
     }
     if short {
-        return answers::TOO_SHORT;
+        return Err(Refusal::TooShort);
     }
-    0
+    Ok(())
 }
 
-// A byte as a word.
+// A byte as a word. A function of its own, as the range of an array's byte is known only of a parameter.
 fn wide(c: u8) -> u64
     ensures { Widened c result }
 {
-    c as u64
+    u64::from(c)
 }
 
 // The held byte j, or 0 past them.
@@ -173,11 +164,9 @@ fn store_held(part: &mut [u64], h: Held)
     requires held_fits { HeldFits h }
     ensures { part.new ≡ sets part.old held_at (words_of held_words (held_of h)) }
 {
-    let mut k = 0;
-    while k < HELD_WORDS {
+    for k in 0..HELD_WORDS {
         let w = pack_eight(h, 8 * k);
         part[HELD_BYTES + k] = w;
-        k += 1;
     }
 }
 

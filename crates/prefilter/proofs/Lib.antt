@@ -1,3 +1,2 @@
 -- Laws on plain values; each function's own file only cites them.
-pub mod Choosing
-pub mod PairTests
+pub mod Unions

@@ -2,8 +2,10 @@
 use Rattle.std.specs.Prelude.{◌≡◌, ℕ, ◌+◌, ◌-◌, ◌*◌, ◌%◌, ◌^◌, ◌<◌, ◌≤◌, Bool, true, false, ◌&&◌, List, ◌≢◌, bit_and, bit_or, nat_le, slice_index}
 use Rattle.shift_and.specs.Bit.{bit}
 use Rattle.shift_and.specs.ForwardStep.{opening, top_bit}
+use Rattle.prefilter.specs.declared.BytePair.{BytePair}
+use Rattle.prefilter.specs.declared.Skip.{Skip}
+use Rattle.prefilter.specs.declared.Skip.TheVariants.{Nothing, Byte, Range, Pair}
 use Rattle.prefilter.specs.declared.Prefilter.{Prefilter}
-use Rattle.prefilter.specs.declared.PairTest.{PairTest}
 
 -- `start` is the start state, where no end is reported, and `next` what a byte can take it to, or keep it at.
 pub record StartState (repeats optional top start next : ℕ) : Type 0 where
@@ -25,11 +27,16 @@ pub record PairSound (t : List ℕ) (repeats optional top a b x y : ℕ) : Type 
   pub first : (c : ℕ) → (c ≢ x) → bit (slice_index t c) (a + 1) ≡ false
   pub second : (c : ℕ) → (c ≢ y) → bit (slice_index t c) (b + 1) ≡ false
 
+-- what each way to skip asks of the start state and the word `next`
+pub record SkipSound (t : List ℕ) (repeats optional top start next : ℕ) (s : Skip) : Type 0 where
+  pub starts : (s ≢ Nothing) → StartState repeats optional top start next
+  pub byte : (x : ℕ) → s ≡ Byte x → AllInRange t next x x
+  pub range : (lo hi : ℕ) → s ≡ Range lo hi → AllInRange t next lo hi
+  pub one : (p : BytePair) → s ≡ Pair p → start ≡ 1
+  pub pair : (p : BytePair) → s ≡ Pair p → PairSound t repeats optional top p.a p.b p.x p.y
+
 pub record PrefilterSound (t : List ℕ) (repeats optional top : ℕ) (p : Prefilter) : Type 0 where
-  pub start : (p.kind ≢ 0) → StartState repeats optional top p.start p.next
-  pub one : p.kind ≡ 2 → AllInRange t p.next p.lo p.lo
-  pub range : p.kind ≡ 3 → AllInRange t p.next p.lo p.hi
-  pub pair : p.kind ≡ 4 → (p.start ≡ 1) × PairSound t repeats optional top p.a p.b p.lo p.hi
+  pub skips : SkipSound t repeats optional top p.start p.next p.skip
   pub clear : p.clear ≡ true → (c : ℕ) → bit (slice_index t c) 63 ≡ false
 
 -- ---- the tests that a pair passes: what each says where it says yes
@@ -47,22 +54,10 @@ pub record ClearBit (t : List ℕ) (w p y : ℕ) (r : Bool) : Type 0 where
   pub word : r ≡ true → bit w p ≡ false
   pub entry : r ≡ true → bit (slice_index t y) p ≡ false
 
--- the masks leave the positions up to q plain and silent
-pub record LiteralPrefix (repeats optional top p q : ℕ) (r : Bool) : Type 0 where
-  pub first : r ≡ true → 1 ≤ p
-  pub order : r ≡ true → p < q
-  pub high : r ≡ true → q ≤ 62
+-- the masks leave the positions up to b + 1 plain and silent
+pub record LiteralPrefix (repeats optional top a b : ℕ) (r : Bool) : Type 0 where
+  pub order : r ≡ true → a < b
+  pub high : r ≡ true → b + 2 < 64
   pub word : r ≡ true → optional < 2 ^ 64
-  pub free : r ≡ true → bit_and (bit_or optional repeats) (2 ^ (q + 1) - 1) ≡ 0
-  pub above : r ≡ true → q ≤ top
-
--- neither w nor the entries of x and y have bit 63
-pub record ClearOfBoth (t : List ℕ) (w x y : ℕ) (r : Bool) : Type 0 where
-  pub word : r ≡ true → bit w 63 ≡ false
-  pub first : r ≡ true → bit (slice_index t x) 63 ≡ false
-  pub second : r ≡ true → bit (slice_index t y) 63 ≡ false
-
--- p and q are one more than the offsets of a pair
-pub record PairTested (t : List ℕ) (repeats optional top p q x y : ℕ) (r : PairTest) : Type 0 where
-  pub pair : r.sound ≡ true → PairSound t repeats optional top (p - 1) (q - 1) x y
-  pub clear : r.clear ≡ true → (c : ℕ) → bit (slice_index t c) 63 ≡ false
+  pub free : r ≡ true → bit_and (bit_or optional repeats) (2 ^ (b + 2) - 1) ≡ 0
+  pub above : r ≡ true → b + 1 ≤ top

@@ -13,37 +13,24 @@ use Rattle.model.specs.References.{form_limit, none, reference_at, Token, byte_t
 use Rattle.model.proofs.Truth.{or_false_left, or_false_right, T-to}
 use Rattle.model.proofs.Decoding.{byte_tokens-append}
 use Rattle.model.proofs.Cuts.{held_none, out_none, held_plain, out_plain}
-use Rattle.byte_search.specs.BlockTests.{NoneBefore, LaneOrEnd, same}
-use Rattle.byte_search.proofs.BlockLaws.{Nearest, near_on, miss_one, miss_join, miss_first}
+use Rattle.byte_search.specs.BlockTests.{NoneBefore, same}
+use Rattle.byte_search.proofs.BlockLaws.{miss_join}
 use Rattle.reference_search.specs.Candidates.{may_follow_amp, candidate_at, LiteralEnd}
 
--- ---- the blocks, at this test
-
-pub amp-near : (text : List ℕ) (i b j k : ℕ) (hit : Bool) (v b' : ℕ) → k ≡ j → j < 64 → hit ≡ candidate_at text (i + k) → Nearest (candidate_at text) i b j → LaneOrEnd hit j v → b' ≤ b → b' ≤ v
-    → Nearest (candidate_at text) i b' (j + 1)
-amp-near text i b j k hit v b' e h q g = near_on (candidate_at text) i b j hit v b' h g (q ∙ ap (λ (k : ℕ). candidate_at text (i + k)) e)
-
-pub amp-one : (text : List ℕ) (i₀ end i : ℕ) (r : Bool) → i < end → r ≡ candidate_at text i → r ≡ false → NoneBefore (candidate_at text) i₀ end i → NoneBefore (candidate_at text) i₀ end (i + 1)
-amp-one text i₀ end i r h e z g = miss_one (candidate_at text) i₀ end i g h (sym e ∙ z)
-
-pub amp-is : (text : List ℕ) (i : ℕ) (q : Bool) → q ≡ may_follow_amp (get_or text (i + 1) 0) → (eqb (get_or text i 0) 38 && q) ≡ candidate_at text i
-amp-is text i q e = ap (λ (b : Bool). eqb (get_or text i 0) 38 && b) e
+-- ---- on from place to place
 
 -- where no `&` stands, none stands that may begin a form
-pub no_amp : (text : List ℕ) (i end r : ℕ) → NoneBefore (same text 38) i end r → NoneBefore (candidate_at text) i end r
-no_amp text i end r g = record {
-  fore = g.fore;
-  within = g.within;
-  none = λ j p q. ap (λ (b : Bool). b && may_follow_amp (get_or text (j + 1) 0)) (g.none j p q);
-}
+pub no_amp : (text : List ℕ) (j : ℕ) → same text 38 j ≡ false → candidate_at text j ≡ false
+no_amp text j e = ap (λ (b : Bool). b && may_follow_amp (get_or text (j + 1) 0)) e
 
--- on by blocks without any `&`, and then byte by byte, or by a block at this test
-pub amp_bytewise : (text : List ℕ) (i₀ end i at r : ℕ) → NoneBefore (candidate_at text) i₀ end i → NoneBefore (same text 38) i end at → NoneBefore (candidate_at text) at end r → NoneBefore (candidate_at text) i₀ end r
-amp_bytewise text i₀ end i at r g s m = miss_join (candidate_at text) i₀ end at r (miss_join (candidate_at text) i₀ end i at g (no_amp text i end at s)) m
+module _ (text : List ℕ) {i₀ end i at r : ℕ} where
+  -- on by blocks without any `&`, and then byte by byte, or by a block at this test
+  pub amp_bytewise : NoneBefore (candidate_at text) i₀ end i → NoneBefore (same text 38) i end at → NoneBefore (candidate_at text) at end r → NoneBefore (candidate_at text) i₀ end r
+  amp_bytewise g s m = miss_join g (miss_join (record { fore = s.fore; within = s.within; none = λ j p q. no_amp text j (s.none j p q) }) m)
 
-pub amp_looked : (text : List ℕ) (i₀ end i at r : ℕ) → NoneBefore (candidate_at text) i₀ end i → NoneBefore (same text 38) i end at → 64 ≤ end - at → NoneBefore (candidate_at text) at (at + 64) r
-    → NoneBefore (candidate_at text) i₀ end r
-amp_looked text i₀ end i at r g s h m = amp_bytewise text i₀ end i at r g s (miss_first (candidate_at text) at end r h m)
+  pub amp_looked : NoneBefore (candidate_at text) i₀ end i → NoneBefore (same text 38) i end at → 64 ≤ end - at → NoneBefore (candidate_at text) at (at + 64) r
+      → NoneBefore (candidate_at text) i₀ end r
+  amp_looked g s h m = amp_bytewise g s (record { fore = m.fore; within = omega (arith, m.within); none = m.none })
 
 -- ---- no form begins
 

@@ -6,6 +6,8 @@ ghost use Rattle.std.specs.Prelude.{◌≡◌, ◌+◌, ◌≤◌, ◌<◌, leng
 ghost use Rattle.byte_search.specs.BlockTests.{NoneBefore};
 ghost use Rattle.reference_search.specs.Candidates.{may_follow_amp, candidate_at, LiteralEnd};
 
+use byte_search::{find_in_turn, first_in_block, skip_blocks};
+
 // Whether a byte is the second one of some form.
 fn may_follow_amp(c: u8) -> bool
     ensures { result ≡ may_follow_amp c }
@@ -21,50 +23,16 @@ fn is_candidate(text: &[u8], i: usize) -> bool
     (text[i] == b'&') & may_follow_amp(text[i + 1])
 }
 
-// The first of the 64 places from i on where they stand, or the place after them.
+// The first of the 64 places from i on where they stand, or the place after them. Mostly the first `&` is the one.
 fn first_candidate(text: &[u8], i: usize) -> usize
     requires { i + 64 < length text.now }
     ensures { NoneBefore (candidate_at text.now) i (i + 64) result }
 {
-    let mut f: u8 = 64;
-    let mut j: u8 = 0;
-    while j < 64 {
-        let k = j as usize;
-        let hit = is_candidate(text, i + k);
-        f = byte_search::min(f, byte_search::lane_or_end(hit, j));
-        j += 1;
+    let j = first_in_block::<64, _>(|k| text[k] == b'&', i);
+    if j - i < 64 && is_candidate(text, j) {
+        return j;
     }
-    i + f as usize
-}
-
-// The same, where mostly the first `&` is the one.
-fn near_candidate(text: &[u8], i: usize) -> usize
-    requires { i + 64 < length text.now }
-    ensures { NoneBefore (candidate_at text.now) i (i + 64) result }
-{
-    let j = byte_search::first_in_block(text, b'&', i);
-    if j - i < 64 {
-        if is_candidate(text, j) {
-            return j;
-        }
-    }
-    first_candidate(text, i)
-}
-
-// The next such place, byte by byte, or `end`.
-fn find_bytewise(text: &[u8], i: usize, end: usize) -> usize
-    requires i_le_end { i ≤ end }
-    requires end_in_bounds { end < length text.now }
-    ensures { NoneBefore (candidate_at text.now) i end result }
-{
-    let mut i = i;
-    while i < end {
-        if is_candidate(text, i) {
-            return i;
-        }
-        i += 1;
-    }
-    i
+    first_in_block::<64, _>(|k| is_candidate(text, k), i)
 }
 
 // The next such place, or `end`: blocks are searched for any `&`, and closer where one stands.
@@ -73,13 +41,14 @@ fn find_candidate(text: &[u8], i: usize, end: usize) -> usize
     requires end_in_bounds { end < length text.now }
     ensures { NoneBefore (candidate_at text.now) i end result }
 {
+    // A `while`, since a turn goes on from where its block ended.
     let mut i = i;
     while i < end {
-        let at = byte_search::skip_blocks(text, b'&', i, end);
+        let at = skip_blocks::<64, _>(|k| text[k] == b'&', i, end);
         if end - at < 64 {
-            return find_bytewise(text, at, end);
+            return find_in_turn(|k| is_candidate(text, k), at, end);
         }
-        let j = near_candidate(text, at);
+        let j = first_candidate(text, at);
         if j - at < 64 {
             return j;
         }

@@ -11,8 +11,8 @@ use lib.Dec.{eqb, leb}
 use borrow.Author.Tests.{ne_eqb}
 use Rattle.model.specs.RuleText as Model
 use Rattle.model.specs.RuleText.{no_end, an_end, closes, misfit, item, faulty, items, end_at, item_at, item_from, range_from, range_to, items_from}
-use Rattle.rule_class.specs.declared.Close.TheVariants.{Wrong as NoClose, At}
-use Rattle.rule_class.specs.declared.Items.{Items}
+use Rattle.std.specs.Prelude.{Some, None}
+use Rattle.byte_set.specs.declared.ByteSet.{ByteSet}
 use Rattle.byte_set.specs.Sets.{add_ranges, none}
 use Rattle.rule_class.specs.Items.{collect}
 
@@ -55,15 +55,15 @@ items-some c cs n m h q = go (item_at (c ∷ cs)) refl
         added-some r (items_from (pred k) (suc n) cs) m (sym f ∙ q)
 
 -- what `read_items` found, read back into the model's
-pub items-found : (w : List ℕ) (next : ℕ) (x : Model.Items) (r : Items) → r ≡ collect none x → r.close ≡ At next → (rs : List Model.Range) × (x ≡ items rs next) × (r.set ≡ add_ranges none rs)
-items-found w next faulty r q e = let z : ◌≡◌ {A = ℕ} 0 1 = cc in clash z
-items-found w next (items rs n) r q e =
-    let a : next ≡ n = cc in
-    (rs, ap (items rs) (sym a), ap (λ (y : Items). y.set) q)
+pub items-found : (set : ByteSet) (next : ℕ) (x : Model.Items) → Some (set, next) ≡ collect none x → (rs : List Model.Range) × (x ≡ items rs next) × (set ≡ record { words = add_ranges none rs })
+items-found set next faulty q = absurd (cc)
+items-found set next (items rs n) q =
+    let p : ◌≡◌ {A = ByteSet × ℕ} (set, next) (record { words = add_ranges none rs }, n) = cc in
+    (rs, ap (λ (y : ByteSet × ℕ). items rs y.1) (sym p), ap (λ (y : ByteSet × ℕ). y.0) p)
 
-pub items_missed : (x : Model.Items) (r : Items) → r ≡ collect none x → r.close ≡ NoClose → x ≡ faulty
-items_missed faulty r q e = refl
-items_missed (items rs n) r q e = let z : ◌≡◌ {A = ℕ} 0 1 = cc in clash z
+pub items_missed : (x : Model.Items) → None ≡ collect none x → x ≡ faulty
+items_missed faulty q = refl
+items_missed (items rs n) q = absurd (cc)
 
 -- more bytes before the first item: the count of bytes is that much greater
 unfoldable pub later : ℕ → Model.Items → Model.Items

@@ -1,177 +1,87 @@
 // The items of a class (document 01, "Rule text"), by index into the whole rule: an end of a range, an item, and all items up to
 // the `]` as a set of bytes. Each contract is one record of `specs/Items.antt`: an equation with the model's own reading of the
-// bytes from that index on, and the bounds that callers want.
+// bytes from that index on, and the bounds that callers want. A reader that finds nothing of its kind answers `None`.
 #![tactic(auto)]
 
-ghost use Rattle.std.specs.Prelude.{◌≡◌, ◌<◌, get_or, length};
+ghost use Rattle.std.specs.Prelude.{◌≡◌, ◌<◌, length};
 ghost use Rattle.model.specs.RuleText.{may_escape};
 ghost use Rattle.rule_class.specs.Items.{ReadsEnd, ReadsEscape, ReadsItem, ReadsItems};
 
-// One end of a range, or a single byte, and the place after it.
-#[derive(Drop)]
-pub enum ClassByte {
-    Byte(u8, usize),
-    Wrong,
-}
+use byte_set::ByteSet;
 
 // A range (a single byte is one of length 1) or the closing `]`, and the place after it.
-#[derive(Drop)]
-pub enum ClassItem {
+#[derive(Clone, Copy)]
+enum ClassItem {
     Range(u8, u8, usize),
     Close(usize),
-    Wrong,
-}
-
-#[derive(Drop)]
-pub enum Close {
-    At(usize),
-    Wrong,
-}
-
-// An enum may not hold an array: the set stands beside it.
-#[derive(Drop)]
-pub struct Items {
-    pub set: [u64; 4],
-    pub close: Close,
-}
-
-// The byte at i, and 0 past the end: a caller needs no proof that i is within.
-pub fn byte_or_zero(s: &[u8], i: usize) -> u8
-    ensures { result ≡ get_or s.now i 0 }
-{
-    if i < s.len() {
-        return s[i];
-    }
-    0
 }
 
 // Whether `\` may stand before c.
 fn escapable(c: u8) -> bool
     ensures { result ≡ may_escape c }
 {
-    if c == b'.' {
-        return true;
-    }
-    if c == b'[' {
-        return true;
-    }
-    if c == b']' {
-        return true;
-    }
-    if c == b'{' {
-        return true;
-    }
-    if c == b'}' {
-        return true;
-    }
-    if c == b'?' {
-        return true;
-    }
-    if c == b'+' {
-        return true;
-    }
-    if c == b'*' {
-        return true;
-    }
-    if c == b'\\' {
-        return true;
-    }
-    if c == b'^' {
-        return true;
-    }
-    if c == b'-' {
-        return true;
-    }
-    false
+    matches!(
+        c,
+        b'.' | b'[' | b']' | b'{' | b'}' | b'?' | b'+' | b'*' | b'\\' | b'^' | b'-'
+    )
 }
 
-// The byte that the `\` at a place gives.
-pub fn read_escape(rule: &[u8], at: usize) -> ClassByte
+// The byte that the `\` at a place gives, and the place after it.
+pub fn read_escape(rule: &[u8], at: usize) -> Option<(u8, usize)>
     requires { at < length rule.now }
     ensures { ReadsEscape rule.now at result }
 {
     let next = at + 1;
-    if rule.len() <= next {
-        return ClassByte::Wrong;
+    let c = *rule.get(next)?;
+    if !escapable(c) {
+        return None;
     }
-    let c = rule[next];
-    if escapable(c) {
-        return ClassByte::Byte(c, next + 1);
-    }
-    ClassByte::Wrong
+    Some((c, next + 1))
 }
 
-// One end of a range in a class, or a single byte, which may be escaped.
-fn read_end(rule: &[u8], at: usize) -> ClassByte
+// One end of a range in a class, or a single byte, which may be escaped; and the place after it.
+fn read_end(rule: &[u8], at: usize) -> Option<(u8, usize)>
     ensures { ReadsEnd rule.now at result }
 {
-    if rule.len() <= at {
-        return ClassByte::Wrong;
+    match *rule.get(at)? {
+        b'\\' => read_escape(rule, at),
+        b']' | b'-' => None,
+        c => Some((c, at + 1)),
     }
-    let c = rule[at];
-    if c == b'\\' {
-        return read_escape(rule, at);
-    }
-    if c == b']' {
-        return ClassByte::Wrong;
-    }
-    if c == b'-' {
-        return ClassByte::Wrong;
-    }
-    ClassByte::Byte(c, at + 1)
 }
 
 // What stands next in a class.
-fn read_item(rule: &[u8], at: usize) -> ClassItem
+fn read_item(rule: &[u8], at: usize) -> Option<ClassItem>
     ensures { ReadsItem rule.now at result }
 {
-    if rule.len() <= at {
-        return ClassItem::Wrong;
+    if *rule.get(at)? == b']' {
+        return Some(ClassItem::Close(at + 1));
     }
-    if rule[at] == b']' {
-        return ClassItem::Close(at + 1);
+    let (low, next) = read_end(rule, at)?;
+    if rule.get(next) != Some(&b'-') {
+        return Some(ClassItem::Range(low, low, next));
     }
-    let ClassByte::Byte(lo, next) = read_end(rule, at) else {
-        return ClassItem::Wrong;
-    };
-    if byte_or_zero(rule, next) != b'-' {
-        return ClassItem::Range(lo, lo, next);
+    let (high, after) = read_end(rule, next + 1)?;
+    if high < low {
+        return None;
     }
-    let second = next + 1;
-    let ClassByte::Byte(hi, after) = read_end(rule, second) else {
-        return ClassItem::Wrong;
-    };
-    if hi < lo {
-        return ClassItem::Wrong;
-    }
-    ClassItem::Range(lo, hi, after)
+    Some(ClassItem::Range(low, high, after))
 }
 
-// The items of a class from a place on, up to its `]`: their ranges are added to the set as they are read.
-pub fn read_items(rule: &[u8], from: usize) -> Items
+// The items of a class from a place on, up to its `]`, and the place after that: their ranges are added to the set as they are read.
+pub fn read_items(rule: &[u8], from: usize) -> Option<(ByteSet, usize)>
     ensures { ReadsItems rule.now from result }
 {
-    let mut set = [0u64; 4];
+    let mut set = ByteSet::new();
     let mut at = from;
     loop {
-        let item = read_item(rule, at);
-        match item {
-            ClassItem::Range(lo, hi, next) => {
-                let t = byte_set::add_range(set, lo, hi);
-                set = t;
+        match read_item(rule, at)? {
+            ClassItem::Range(low, high, next) => {
+                set.insert_range(low, high);
                 at = next;
             }
             ClassItem::Close(next) => {
-                return Items {
-                    set: set,
-                    close: Close::At(next),
-                };
-            }
-            ClassItem::Wrong => {
-                return Items {
-                    set: [0u64; 4],
-                    close: Close::Wrong,
-                };
+                return Some((set, next));
             }
         }
     }

@@ -1,5 +1,5 @@
 -- "a position holds codes alone", element by element, and what a rule with codes is answered. On plain values. Assumes nothing.
-use mathlib.Core.Path.{◌≡◌, refl, sym, ap, ap₂, subst, ◌∙◌}
+use mathlib.Core.Path.{◌≡◌, sym, ap, ap₂, subst, ◌∙◌}
 use mathlib.Core.Bool.{Bool, true, false, cond, ◌||◌}
 use mathlib.Core.List.{List, ◌∷◌}
 use Prim.Native.Nat.{ℕ, ◌+◌, ◌-◌, ◌^◌, ◌≤◌, ◌<◌}
@@ -10,21 +10,24 @@ use Rattle.model.specs.Occurrence.{Position, all as every}
 use Rattle.model.specs.RefusalNumbers.{codes_fault}
 use Rattle.model.specs.RuleText as Model
 use Rattle.model.specs.RuleText.{fold_flag, position_limit, is_byte, positions, kind_positions}
-use Rattle.model.specs.NumberedAnswers.{Parsed, refused, accepted, elements_from, parse, positions_by, rule_positions}
+use Rattle.model.specs.NumberedAnswers.{Parsed, refused, accepted, elements_from, positions_by, rule_positions}
 use Rattle.model.specs.Codes.{codes_alone, codes_wrong, codes_refused, or_codes, parse_with}
 use Rattle.model.proofs.CodeLaws.{alone-append, no_codes_alone}
 use Rattle.byte_set.specs.Sets.{none}
+use Rattle.answers.specs.declared.Refusal.{Refusal}
+use Rattle.answers.specs.declared.Refusal.TheVariants.{CodesFault}
+use Rattle.answers.specs.declared.Refused.{Refused}
+use Rattle.answers.specs.Answers.{refused_at}
 use Rattle.rule_element.specs.declared.Kind.{Kind}
 use Rattle.rule_element.specs.declared.Element.{Element}
-use Rattle.rule_element.specs.declared.ElementAnswer.TheVariants.{Got, Refused}
-use Rattle.rule_element.specs.declared.ElementResult.{ElementResult}
-use Rattle.rule_element.specs.Reading.{kind_of, set_of, size_of, ElementMoves, ReadsElement}
+use Rattle.std.specs.Prelude.{Ok, Err}
+use Rattle.rule_element.specs.Reading.{kind_of, size_of, ElementMoves, ReadsElement}
 use Rattle.rule_parser.specs.declared.Prepared.{Prepared}
-use Rattle.rule_parser.specs.Preparing.{refusal_of, prepared_by, prepared, Prepares}
+use Rattle.rule_parser.specs.Preparing.{PreparedRule, RuleRefused}
 use Rattle.rule_element.proofs.RuleReading.{Found, moved, element-found, elements-over, elements_never, elements-after}
 use Rattle.rule_table.proofs.FillLaws.{Accepts, accepts}
 use Rattle.code_list.proofs.CodeLists.{codes_few}
-use Rattle.rule_codes.specs.RuleCodes.{add_codes, kind_alone, OfByte, KindAloneIs, Judgeable, PreparesWith}
+use Rattle.rule_codes.specs.RuleCodes.{add_codes, kind_alone, OfByte, KindAloneIs, Judgeable, PreparedWith, RefusedWith}
 use Rattle.rule_codes.proofs.CodeSets.{kind-is-alone}
 
 -- ---- `some_alone`: no element so far
@@ -37,8 +40,7 @@ pub record Judging (fold : Bool) (s codes : List ℕ) (all : List Position) (at 
 
 module _ (flag : ℕ) (s codes : List ℕ) (h : Judgeable flag s codes) where
   judged_rule : Accepts (fold_flag flag) s
-  unfolding prepared
-  judged_rule = accepts (fold_flag flag) s h.fine
+  judged_rule = accepts (fold_flag flag) s h.elements h.parses
 
   pub judge_begun : (f : Bool) → f ≡ fold_flag flag → Judging f s codes (rule_positions (fold_flag flag) s) 0 0
   judge_begun f ef = record {
@@ -52,16 +54,16 @@ module _ (flag : ℕ) (s codes : List ℕ) (h : Judgeable flag s codes) where
     pub judge_over : length s ≤ at → false ≡ codes_alone codes all
     judge_over l = sym (ap (λ (es : List Model.Element). codes_alone codes (positions f es)) (elements-over f s at used g.left g.rest l)) ∙ g.alone
 
-    module _ (l : at < length s) (r : ElementResult) (rc : ReadsElement f used s at r) where
-      pub judge_never : (k : ℕ) → r.answer ≡ Refused k → false ≡ codes_alone codes all
-      judge_never k e = elements_never f s at used g.left g.rest l r rc k e
+    module _ (l : at < length s) where
+      pub judge_never : (x : Refusal) → ReadsElement f used s at (Err x) → false ≡ codes_alone codes all
+      judge_never x r = elements_never f s at used g.left g.rest l x r
 
-      module _ (element : Element) (to : ℕ) (e : r.answer ≡ Got element to) where
-        abbrev found : Found f used s at l r rc element to e
-        found = element-found f used s at l r rc element to e
+      module _ (element : Element) (to : ℕ) (rc : ReadsElement f used s at (Ok (element, to))) where
+        abbrev found : Found f used s at l element to rc
+        found = element-found f used s at l element to rc
 
         moves : ElementMoves used s at element to
-        moves = moved f used s at l r rc element to e
+        moves = moved f used s at l element to rc
 
         pub judge_less : length s - to < length s - at
         judge_less = omega (arith, moves.ahead, moves.inside)
@@ -70,17 +72,17 @@ module _ (flag : ℕ) (s codes : List ℕ) (h : Judgeable flag s codes) where
         judge_room n e = omega (arith, moves.room)
 
         after : (fs : List Model.Element) × (elements_from position_limit f 0 to (used + size_of element.kind) (drop to s) ≡ accepted fs) × (record { kind = found.kind; often = found.often } ∷ fs ≡ g.left)
-        after = elements-after f s at used g.left g.rest l r rc element to e
+        after = elements-after f s at used g.left g.rest l element to rc
 
-        module _ (b : Bool) (v : List ℕ) (ev : v ≡ add_codes none codes) (a : KindAloneIs f element.kind r.set v b) where
-          same_kind : element.kind ≡ kind_of used found.kind
+        module _ (b : Bool) (v : List ℕ) (ev : v ≡ add_codes none codes) (a : KindAloneIs f element.kind v b) where
+          same_kind : element.kind ≡ kind_of f found.kind
           same_kind = ap (λ (y : Element). y.kind) found.is-element
 
           -- what it makes
           kind-alone : codes_alone codes (kind_positions f found.kind found.often) ≡ b
           kind-alone =
-              kind-is-alone codes h.few f used found.kind found.often (subst (λ (k : Kind). OfByte k) same_kind a.byte)
-              ∙ sym (a.is ∙ ap₂ (λ (k : Kind) (u : List ℕ). kind_alone f k u v) same_kind found.is_set ∙ ap (kind_alone f (kind_of used found.kind) (set_of f found.kind)) ev)
+              kind-is-alone codes h.few f found.kind found.often (subst (λ (k : Kind). OfByte k) same_kind a.byte)
+              ∙ sym (a.is ∙ ap₂ (kind_alone f) same_kind ev)
 
           split : codes_alone codes (positions f g.left) ≡ (b || codes_alone codes (positions f after.0))
           split =
@@ -106,58 +108,33 @@ module _ (flag : ℕ) (s codes : List ℕ) (h : Judgeable flag s codes) where
 
 -- ---- `prepare`
 
-module _ (flag : ℕ) (rule codes sets : List ℕ) (p : Prepared) (hp : Prepares flag rule p) where
-  pub refused-before : (p.number ≡ 0 → ⊥) → PreparesWith flag rule codes sets p
-  unfolding prepared
-  refused-before z = go (parse (fold_flag flag) rule) refl
-    where
-      go : (x : Parsed) → parse (fold_flag flag) rule ≡ x → PreparesWith flag rule codes sets p
-      go (refused n q) e = record {
-        is = hp.is ∙ ap (prepared_by (fold_flag flag)) e ∙ sym (ap (λ (x : Parsed). prepared_by (fold_flag flag) (or_codes (fold_flag flag) codes sets x)) e);
-        rule-is = λ k. absurd (z k);
-        codes_fine = λ k. absurd (z k);
-      }
-      go (accepted es) e = absurd (z (ap (λ (y : Prepared). y.number) (hp.is ∙ ap (prepared_by (fold_flag flag)) e)))
+module _ (flag : ℕ) (rule codes sets : List ℕ) where
+  pub refused-before : (e : Refused) → RuleRefused flag rule e → RefusedWith flag rule codes sets e
+  refused-before e r = record { is = ap (or_codes (fold_flag flag) codes sets) r.is }
 
-  module _ (z : p.number ≡ 0) where
+  module _ (p : Prepared) (hp : PreparedRule flag rule p) where
     pub judgeable : (b : Bool) → b ≡ codes_wrong codes sets → b ≡ false → Judgeable flag rule codes
-    judgeable b e f = record { fine = sym (ap (λ (y : Prepared). y.number) hp.is) ∙ z; few = codes_few codes sets (sym e ∙ f) }
-
-    accepted-rule : Accepts (fold_flag flag) rule
-    unfolding prepared
-    accepted-rule = accepts (fold_flag flag) rule (sym (ap (λ (y : Prepared). y.number) hp.is) ∙ z)
+    judgeable b e f = record { elements = hp.elements; parses = hp.parses; few = codes_few codes sets (sym e ∙ f) }
 
     -- what the codes beside it add
-    by_codes : (b : Bool) → codes_refused codes sets (rule_positions (fold_flag flag) rule) ≡ b → parse_with (fold_flag flag) rule codes sets ≡ cond b (refused codes_fault 0) (accepted accepted-rule.elements)
+    by_codes : (b : Bool) → codes_refused codes sets (rule_positions (fold_flag flag) rule) ≡ b → parse_with (fold_flag flag) rule codes sets ≡ cond b (refused codes_fault 0) (accepted hp.elements)
     by_codes b e =
-        let a = accepted-rule.parses in
-        ap (or_codes (fold_flag flag) codes sets) a
-        ∙ ap (λ (x : Bool). cond x (refused codes_fault 0) (accepted accepted-rule.elements)) (sym (ap (λ (x : Parsed). codes_refused codes sets (positions_by (fold_flag flag) x)) a) ∙ e)
+        ap (or_codes (fold_flag flag) codes sets) hp.parses
+        ∙ ap (λ (x : Bool). cond x (refused codes_fault 0) (accepted hp.elements)) (sym (ap (λ (x : Parsed). codes_refused codes sets (positions_by (fold_flag flag) x)) hp.parses) ∙ e)
 
-    fault : codes_refused codes sets (rule_positions (fold_flag flag) rule) ≡ true → (r : Prepared) → r ≡ refusal_of codes_fault 0 → PreparesWith flag rule codes sets r
-    fault e r er =
-        let n : r.number ≡ codes_fault = ap (λ (y : Prepared). y.number) er in
-        record {
-          is = er ∙ sym (ap (prepared_by (fold_flag flag)) (by_codes true e));
-          rule-is = λ k. absurd (omega arith);
-          codes_fine = λ k. absurd (omega arith);
-        }
+    fault : codes_refused codes sets (rule_positions (fold_flag flag) rule) ≡ true → (r : Refused) → r ≡ refused_at CodesFault 0 → RefusedWith flag rule codes sets r
+    fault e r er = rw er (record { is = by_codes true e })
 
     module _ (b : Bool) (eb : b ≡ codes_wrong codes sets) where
-      pub codes_wrong_lem : b ≡ true → (r : Prepared) → r ≡ refusal_of codes_fault 0 → PreparesWith flag rule codes sets r
+      pub codes_wrong_lem : b ≡ true → (r : Refused) → r ≡ refused_at CodesFault 0 → RefusedWith flag rule codes sets r
       codes_wrong_lem t r er = fault (ap (λ (x : Bool). x || codes_alone codes (rule_positions (fold_flag flag) rule)) (sym eb ∙ t)) r er
 
       module _ (f : b ≡ false) (a : Bool) (ea : a ≡ codes_alone codes (rule_positions (fold_flag flag) rule)) where
         refused-is : codes_refused codes sets (rule_positions (fold_flag flag) rule) ≡ a
         refused-is = ap₂ (λ (x y : Bool). x || y) (sym eb ∙ f) (sym ea)
 
-        pub codes_alone_lem : a ≡ true → (r : Prepared) → r ≡ refusal_of codes_fault 0 → PreparesWith flag rule codes sets r
+        pub codes_alone_lem : a ≡ true → (r : Refused) → r ≡ refused_at CodesFault 0 → RefusedWith flag rule codes sets r
         codes_alone_lem t r er = fault (refused-is ∙ t) r er
 
-        pub all-accepted : a ≡ false → PreparesWith flag rule codes sets p
-        unfolding prepared
-        all-accepted t = record {
-          is = hp.is ∙ ap (prepared_by (fold_flag flag)) (accepted-rule.parses ∙ sym (by_codes false (refused-is ∙ t)));
-          rule-is = λ k. hp;
-          codes_fine = λ k. sym eb ∙ f;
-        }
+        pub all-accepted : a ≡ false → PreparedWith flag rule codes sets p
+        all-accepted t = record { rule-is = hp; parses = by_codes false (refused-is ∙ t); codes_fine = sym eb ∙ f }

@@ -16,21 +16,16 @@ use Rattle.model.specs.Codes.{share, codes_most, codes_alone}
 use Rattle.model.proofs.Truth.{same_test, and_intro, and_left, and_right, or_cases, or_left, or_right}
 use Rattle.model.proofs.Below.{some_into, some_out, some_same}
 use Rattle.model.proofs.CodeLaws.{alone-append, alone-replicate, codes_leave_one}
-use Rattle.byte_set.specs.Sets.{member, add_byte, minus, is_empty, none}
+use Rattle.byte_set.specs.Sets.{member, add_byte, add_ranges, widen, turn, minus, is_empty, none}
 use Rattle.byte_set.proofs.Fold.{fold_twice}
 use Rattle.byte_set.proofs.SetLaws.{Four, none_four, add_four, member_add, none-member, minus_four, minus-member, class_four, class-member, empty-none, full-some, other_small}
-use Rattle.rule_element.specs.declared.Kind.{Kind}
-use Rattle.rule_element.specs.declared.Kind.TheVariants.{Byte, Any, Class, Gap}
-use Rattle.rule_element.specs.Reading.{kind_of, set_of}
-use Rattle.rule_codes.specs.RuleCodes.{add_codes, byte_alone, kind_alone, OfByte, KindAloneIs}
+use Rattle.rule_element.specs.Reading.{kind_of}
+use Rattle.rule_codes.specs.RuleCodes.{add_codes, byte_alone, kind_alone, OfByte}
 
 -- ---- `code_set`
 
 pub record Adding (codes w : List ℕ) (i : ℕ) : Type 0 where
   pub rest : add_codes w (drop i codes) ≡ add_codes none codes
-
-pub adding : (codes w : List ℕ) → w ≡ none → Adding codes w 0
-adding codes w e = record { rest = ap (λ (v : List ℕ). add_codes v codes) e }
 
 module _ (codes w : List ℕ) (i : ℕ) (g : Adding codes w i) where
   pub add_turn : i < length codes → (v : List ℕ) → v ≡ add_byte w (get_or codes i 0) → Adding codes v (i + 1)
@@ -67,33 +62,6 @@ set_four codes = codes_four codes none none_four
 
 pub set-has : (codes : List ℕ) (x : ℕ) → x < 256 → member (add_codes none codes) x ≡ one_of codes x
 set-has codes x l = codes_more codes none x none_four l ∙ ap (λ (b : Bool). b || one_of codes x) (none-member x l)
-
--- ---- `byte_alone`
-
-module _ (w : List ℕ) (i : ℕ) (fold : Bool) (b : Bool) (eb : b ≡ member w i) where
-  pub own_and_other : b ≡ true → fold ≡ true → (o : ℕ) → o ≡ other_case i → (r : Bool) → r ≡ member w o → r ≡ byte_alone fold i w
-  own_and_other t f o eo r e = rw (← eb, t, f) (e ∙ ap (member w) eo)
-
-  pub own_alone : b ≡ true → fold ≡ false → true ≡ byte_alone fold i w
-  own_alone t f = rw (← eb, t, f)
-
-  pub own_not : b ≡ false → false ≡ byte_alone fold i w
-  own_not f = rw (← eb, f)
-
--- ---- `kind_alone`
-
-module _ (fold : Bool) (k : Kind) (v w : List ℕ) where
-  pub alone-byte : (b i : ℕ) → k ≡ Byte b → i ≡ b → i < 256 → (r : Bool) → r ≡ byte_alone fold i w → KindAloneIs fold k v w r
-  alone-byte b i ek ei l r e = rw ek (record { is = e ∙ ap (λ (j : ℕ). byte_alone fold j w) ei; byte = omega arith })
-
-  pub alone-any : k ≡ Any → KindAloneIs fold k v w false
-  alone-any ek = rw ek (record { is = refl; byte = tt })
-
-  pub alone-class : (n : ℕ) → k ≡ Class n → (u : List ℕ) → u ≡ minus v w → (r : Bool) → r ≡ is_empty u → KindAloneIs fold k v w r
-  alone-class n ek u eu r e = rw ek (record { is = e ∙ ap is_empty eu; byte = tt })
-
-  pub alone-gap : (a b : ℕ) → k ≡ Gap a b → KindAloneIs fold k v w false
-  alone-gap a b ek = rw ek (record { is = refl; byte = tt })
 
 -- ---- what it says of the positions
 
@@ -150,25 +118,25 @@ module _ (codes : List ℕ) (few : length codes ≤ codes_most) where
               (and_right fold (not (one_of codes (other_case b))) n)
 
   -- a class
-  class_shares : (fold t : Bool) (rs : List Model.Range) → not (share (λ c. is_byte c && kind_set fold (class t rs) c) others) ≡ is_empty (minus (set_of fold (class t rs)) w)
-  class_shares fold t rs = go (is_empty (minus (set_of fold (class t rs)) w)) refl
+  class_shares : (fold t : Bool) (rs : List Model.Range) → not (share (λ c. is_byte c && kind_set fold (class t rs) c) others) ≡ is_empty (minus (turn t (widen fold (add_ranges none rs))) w)
+  class_shares fold t rs = go (is_empty (minus (turn t (widen fold (add_ranges none rs))) w)) refl
     where
-      is : (x : ℕ) → x < 256 → member (minus (set_of fold (class t rs)) w) x ≡ ((is_byte x && kind_set fold (class t rs) x) && not (one_of codes x))
+      is : (x : ℕ) → x < 256 → member (minus (turn t (widen fold (add_ranges none rs))) w) x ≡ ((is_byte x && kind_set fold (class t rs) x) && not (one_of codes x))
       is x l =
-          minus-member (set_of fold (class t rs)) w x (set_four codes) l
+          minus-member (turn t (widen fold (add_ranges none rs))) w x (set_four codes) l
           ∙ ap₂ (λ (a b : Bool). a && not b) (class-member fold t rs x l ∙ sym (ap (λ (a : Bool). a && kind_set fold (class t rs) x) (lt-ltb x 256 l))) (set-has codes x l)
 
-      four : Four (minus (set_of fold (class t rs)) w)
-      four = minus_four (set_of fold (class t rs)) w (class_four fold t rs)
+      four : Four (minus (turn t (widen fold (add_ranges none rs))) w)
+      four = minus_four (turn t (widen fold (add_ranges none rs))) w (class_four fold t rs)
 
-      go : (b : Bool) → is_empty (minus (set_of fold (class t rs)) w) ≡ b → not (share (λ c. is_byte c && kind_set fold (class t rs) c) (λ x. not (one_of codes x))) ≡ b
-      go true q = ap not (empty-none (minus (set_of fold (class t rs)) w) four (λ x. (is_byte x && kind_set fold (class t rs) x) && not (one_of codes x)) is q)
-      go false q = ap not (full-some (minus (set_of fold (class t rs)) w) four (λ x. (is_byte x && kind_set fold (class t rs) x) && not (one_of codes x)) is q)
+      go : (b : Bool) → is_empty (minus (turn t (widen fold (add_ranges none rs))) w) ≡ b → not (share (λ c. is_byte c && kind_set fold (class t rs) c) (λ x. not (one_of codes x))) ≡ b
+      go true q = ap not (empty-none (minus (turn t (widen fold (add_ranges none rs))) w) four (λ x. (is_byte x && kind_set fold (class t rs) x) && not (one_of codes x)) is q)
+      go false q = ap not (full-some (minus (turn t (widen fold (add_ranges none rs))) w) four (λ x. (is_byte x && kind_set fold (class t rs) x) && not (one_of codes x)) is q)
 
-  pub kind-is-alone : (fold : Bool) (used : ℕ) (d : Model.Kind) (o : Model.Often) → OfByte (kind_of used d) → codes_alone codes (kind_positions fold d o) ≡ kind_alone fold (kind_of used d) (set_of fold d) w
-  kind-is-alone fold used (byte b) o h = or-false _ ∙ byte_shares fold b h
-  kind-is-alone fold used any o h = or-false _ ∙ ap not any_shares
-  kind-is-alone fold used (class t rs) o h = or-false _ ∙ class_shares fold t rs
-  kind-is-alone fold used (gap a b) o h =
+  pub kind-is-alone : (fold : Bool) (d : Model.Kind) (o : Model.Often) → OfByte (kind_of fold d) → codes_alone codes (kind_positions fold d o) ≡ kind_alone fold (kind_of fold d) w
+  kind-is-alone fold (byte b) o h = or-false _ ∙ byte_shares fold b h
+  kind-is-alone fold any o h = or-false _ ∙ ap not any_shares
+  kind-is-alone fold (class t rs) o h = or-false _ ∙ class_shares fold t rs
+  kind-is-alone fold (gap a b) o h =
       alone-append codes (replicate (b - a) (position fold any optional)) (replicate a (position fold any once))
       ∙ ap₂ (λ (x y : Bool). x || y) (alone-replicate codes (position fold any optional) (b - a) (ap not any_shares)) (alone-replicate codes (position fold any once) a (ap not any_shares))

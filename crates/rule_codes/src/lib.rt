@@ -8,46 +8,38 @@ ghost use Rattle.model.specs.Codes.{codes_alone};
 ghost use Rattle.byte_set.specs.Sets.{none};
 ghost use Rattle.rule_codes.specs.RuleCodes.{add_codes, byte_alone, KindAloneIs, Judgeable, PreparesWith};
 
-use rule_element::{ElementAnswer, Kind};
+use answers::{Refusal, Refused};
+use byte_set::ByteSet;
+use rule_element::Kind;
 use rule_parser::Prepared;
 
 // The codes as a set.
-fn code_set(codes: &[u8]) -> [u64; 4]
-    ensures { result ≡ add_codes none codes.now }
+fn code_set(codes: &[u8]) -> ByteSet
+    ensures { result.words ≡ add_codes none codes.now }
 {
-    let mut set = [0u64; 4];
-    let mut i = 0;
-    while i < codes.len() {
-        let more = byte_set::add_byte(set, codes[i]);
-        set = more;
-        i += 1;
+    let mut set = ByteSet::new();
+    for code in codes {
+        set.insert(*code);
     }
     set
 }
 
 // Whether a byte, and with the fold flag set its other case, is a code.
-fn byte_alone(i: usize, fold: bool, codes: [u64; 4]) -> bool
+fn byte_alone(i: usize, fold: bool, codes: ByteSet) -> bool
     requires { i < 256 }
-    ensures { result ≡ byte_alone fold i codes }
+    ensures { result ≡ byte_alone fold i codes.words }
 {
-    if byte_set::has(codes, i as u8) {
-        if fold {
-            return byte_set::has(codes, byte_set::other_case(i));
-        }
-        return true;
-    }
-    false
+    codes.contains(i as u8) && (!fold || codes.contains(byte_set::other_case(i)))
 }
 
 // Whether an element admits codes alone. Eight codes leave a byte, so that any byte and a gap do not.
-fn kind_alone(kind: Kind, set: [u64; 4], fold: bool, codes: [u64; 4]) -> bool
-    ensures { KindAloneIs fold kind set codes result }
+fn kind_alone(kind: Kind, fold: bool, codes: ByteSet) -> bool
+    ensures { KindAloneIs fold kind codes.words result }
 {
     match kind {
         Kind::Byte(b) => byte_alone(byte_search::byte_index(b), fold, codes),
-        Kind::Any => false,
-        Kind::Class(_) => byte_set::is_empty(byte_set::without(set, codes)),
-        Kind::Gap(_, _) => false,
+        Kind::Class(set) => set.without(codes).is_empty(),
+        Kind::Any | Kind::Gap(_, _) => false,
     }
 }
 
@@ -61,22 +53,14 @@ fn some_alone(rule: &[u8], fold: u32, codes: &[u8]) -> bool
     let mut at = 0;
     let mut used = 0u32;
     while at < rule.len() {
-        let e = rule_element::read_element(rule, at, f, used);
-        let set = e.set;
-        let answer = e.answer;
-        match answer {
-            ElementAnswer::Refused(_) => {
-                return false;
-            }
-            ElementAnswer::Got(element, next) => {
-                let kind = element.kind;
-                if kind_alone(kind, set, f, all) {
-                    return true;
-                }
-                used += rule_element::size(kind);
-                at = next;
-            }
+        let Ok((element, next)) = rule_element::read_element(rule, at, f, used) else {
+            return false;
+        };
+        if kind_alone(element.kind, f, all) {
+            return true;
         }
+        used += rule_element::size(element.kind);
+        at = next;
     }
     false
 }
@@ -92,19 +76,16 @@ fn alone(rule: &[u8], fold: u32, codes: &[u8]) -> bool
     some_alone(rule, fold, codes)
 }
 
-// What a rule with codes says, or with which number and place it is refused: the rule's own, then 15.
-pub fn prepare(rule: &[u8], fold: u32, codes: &[u8], sets: &[u8]) -> Prepared
+// What a rule with codes says, or why and where it is refused: the rule's own refusals, then 15.
+pub fn prepare(rule: &[u8], fold: u32, codes: &[u8], sets: &[u8]) -> Result<Prepared, Refused>
     ensures { PreparesWith fold rule.now codes.now sets.now result }
 {
-    let p = rule_parser::prepare(rule, fold);
-    if p.number != 0 {
-        return p;
-    }
+    let p = rule_parser::prepare(rule, fold)?;
     if code_list::wrong(codes, sets) {
-        return rule_parser::refusal(answers::CODES_FAULT, 0);
+        return Err(Refusal::CodesFault.at(0));
     }
     if alone(rule, fold, codes) {
-        return rule_parser::refusal(answers::CODES_FAULT, 0);
+        return Err(Refusal::CodesFault.at(0));
     }
-    p
+    Ok(p)
 }

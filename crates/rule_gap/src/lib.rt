@@ -4,99 +4,80 @@
 ghost use Rattle.std.specs.Prelude.{◌≡◌, ◌<◌, length, drop};
 ghost use Rattle.rule_gap.specs.Bounds.{ReadsDigit, ReadsBound, ReadsBounds, unequal_at};
 
-// A bound of a gap, and the place after it: the place where it was looked for, if no digit stands there.
+// A bound of a gap, and the place after it.
 #[derive(Clone, Copy)]
-pub struct Bound {
-    pub value: u32,
+struct Bound {
+    value: u32,
+    next: usize,
+}
+
+// A gap's bounds, and the place after its `}`.
+#[derive(Clone, Copy)]
+pub struct Gap {
+    pub least: u32,
+    pub most: u32,
     pub next: usize,
 }
 
-// Both bounds, and the place after the `}`.
-#[derive(Drop)]
-pub enum Bounds {
-    Both(u32, u32, usize),
-    Wrong,
-}
-
-// The value of a digit, and 10 for any other byte.
-fn digit(c: u8) -> u32
-    ensures { ReadsDigit c result }
+// The value of the digit that stands at a place.
+fn digit_at(rule: &[u8], at: usize) -> Option<u32>
+    ensures { ReadsDigit rule.now at result }
 {
-    if c < b'0' {
-        return 10;
+    match *rule.get(at)? {
+        c @ b'0'..=b'9' => Some(u32::from(c - b'0')),
+        _ => None,
     }
-    if b'9' < c {
-        return 10;
-    }
-    (c - b'0') as u32
 }
 
 // A bound of a gap: one or two digits.
-fn read_bound(rule: &[u8], at: usize) -> Bound
+fn read_bound(rule: &[u8], at: usize) -> Option<Bound>
     ensures { ReadsBound rule.now at result }
 {
-    if rule.len() <= at {
-        return Bound { value: 0, next: at };
-    }
-    let tens = digit(rule[at]);
-    if tens == 10 {
-        return Bound { value: 0, next: at };
-    }
-    let ones = digit(rule_class::byte_or_zero(rule, at + 1));
-    if ones == 10 {
-        return Bound {
+    let tens = digit_at(rule, at)?;
+    let Some(ones) = digit_at(rule, at + 1) else {
+        return Some(Bound {
             value: tens,
             next: at + 1,
-        };
-    }
-    Bound {
+        });
+    };
+    Some(Bound {
         value: 10 * tens + ones,
         next: at + 2,
-    }
+    })
 }
 
 // The bounds of the gap whose `{` stands at a place.
-pub fn read_bounds(rule: &[u8], at: usize) -> Bounds
+pub fn read_bounds(rule: &[u8], at: usize) -> Option<Gap>
     requires { at < length rule.now }
     ensures { ReadsBounds rule.now at result }
 {
-    let first = at + 1;
-    let a = read_bound(rule, first);
-    let comma = a.next;
-    if comma == first {
-        return Bounds::Wrong;
+    let least = read_bound(rule, at + 1)?;
+    if rule.get(least.next) != Some(&b',') {
+        return None;
     }
-    if rule_class::byte_or_zero(rule, comma) != b',' {
-        return Bounds::Wrong;
+    let most = read_bound(rule, least.next + 1)?;
+    if rule.get(most.next) != Some(&b'}') {
+        return None;
     }
-    let second = comma + 1;
-    let b = read_bound(rule, second);
-    let brace = b.next;
-    if brace == second {
-        return Bounds::Wrong;
+    if most.value < least.value {
+        return None;
     }
-    if rule_class::byte_or_zero(rule, brace) != b'}' {
-        return Bounds::Wrong;
+    if most.value == 0 {
+        return None;
     }
-    if b.value < a.value {
-        return Bounds::Wrong;
-    }
-    if b.value == 0 {
-        return Bounds::Wrong;
-    }
-    let next = brace + 1;
-    Bounds::Both(a.value, b.value, next)
+    Some(Gap {
+        least: least.value,
+        most: most.value,
+        next: most.next + 1,
+    })
 }
 
 // Whether a gap with a < b begins at a place.
 pub fn unequal_at(rule: &[u8], at: usize) -> bool
     ensures { result ≡ unequal_at (drop at rule.now) }
 {
-    if rule_class::byte_or_zero(rule, at) != b'{' {
+    if rule.get(at) != Some(&b'{') {
         return false;
     }
-    let Bounds::Both(a, b, _) = read_bounds(rule, at) else {
-        return false;
-    };
-    a < b
+    read_bounds(rule, at).is_some_and(|gap| gap.least < gap.most)
 }

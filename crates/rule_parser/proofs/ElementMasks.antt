@@ -9,6 +9,7 @@ use lib.Pow.{pow_pos}
 use Rattle.model.specs.Occurrence.{Position, one_if}
 use Rattle.model.specs.RuleText as Model
 use Rattle.model.specs.RuleText.{byte, any, class, gap, once, optional, repeatable, both, position, positions, kind_positions}
+use Rattle.byte_set.specs.declared.ByteSet.{ByteSet}
 use Rattle.rule_element.specs.declared.Kind.{Kind}
 use Rattle.rule_element.specs.declared.Kind.TheVariants.{Byte, Any, Class, Gap}
 use Rattle.rule_element.specs.declared.Often.{Often}
@@ -47,7 +48,7 @@ module _ (k : Kind) (o : Often) where
     pub optional-any : k ≡ Any → CountIs k (optional_count k o) r
     optional-any q = rw q (record { is = e; few = few-optional })
 
-    pub optional-class : (n : ℕ) → k ≡ Class n → CountIs k (optional_count k o) r
+    pub optional-class : (n : ByteSet) → k ≡ Class n → CountIs k (optional_count k o) r
     optional-class n q = rw q (record { is = e; few = few-optional })
 
   pub gap-order : (a b : ℕ) → k ≡ Gap a b → KindFits k → a ≤ b
@@ -66,7 +67,7 @@ module _ (k : Kind) (o : Often) where
     pub repeat_any : k ≡ Any → CountIs k (repeat_count k o) r
     repeat_any q = rw q (record { is = e; few = few_repeat })
 
-    pub repeat_class : (n : ℕ) → k ≡ Class n → CountIs k (repeat_count k o) r
+    pub repeat_class : (n : ByteSet) → k ≡ Class n → CountIs k (repeat_count k o) r
     repeat_class n q = rw q (record { is = e; few = few_repeat })
 
   pub repeat_gap : (a b : ℕ) → k ≡ Gap a b → CountIs k (repeat_count k o) 0
@@ -98,11 +99,11 @@ mask_no f p e (suc n) = let h = mask_no f p e n in let b : one_if (f p) ≡ 0 = 
 
 -- ---- an element's positions
 
-pub kind-length : (fold : Bool) (used : ℕ) (d : Model.Kind) (o : Model.Often) → KindFits (kind_of used d) → length (kind_positions fold d o) ≡ size_of (kind_of used d)
-kind-length fold used (byte b) o h = refl
-kind-length fold used any o h = refl
-kind-length fold used (class t rs) o h = refl
-kind-length fold used (gap a b) o h =
+pub kind-length : (fold : Bool) (d : Model.Kind) (o : Model.Often) → KindFits (kind_of fold d) → length (kind_positions fold d o) ≡ size_of (kind_of fold d)
+kind-length fold (byte b) o h = refl
+kind-length fold any o h = refl
+kind-length fold (class t rs) o h = refl
+kind-length fold (gap a b) o h =
     let p = position fold any optional in
     let q = position fold any once in
     let l = h.0 in
@@ -120,12 +121,12 @@ one_repeat optional = refl
 one_repeat repeatable = refl
 one_repeat both = refl
 
-pub optional-mask : (fold : Bool) (used : ℕ) (d : Model.Kind) (o : Model.Often) → 2 ^ optional_count (kind_of used d) (often_of o) - 1 ≡ mask_from is_optional (kind_positions fold d o)
+pub optional-mask : (fold : Bool) (d : Model.Kind) (o : Model.Often) → 2 ^ optional_count (kind_of fold d) (often_of o) - 1 ≡ mask_from is_optional (kind_positions fold d o)
 unfolding mask_from
-optional-mask fold used (byte b) o = one-optional o
-optional-mask fold used any o = one-optional o
-optional-mask fold used (class t rs) o = one-optional o
-optional-mask fold used (gap a b) o =
+optional-mask fold (byte b) o = one-optional o
+optional-mask fold any o = one-optional o
+optional-mask fold (class t rs) o = one-optional o
+optional-mask fold (gap a b) o =
     let p = position fold any optional in
     let q = position fold any once in
     sym
@@ -133,12 +134,12 @@ optional-mask fold used (gap a b) o =
     ∙ ap₂ (λ (x y : ℕ). x + y * 2 ^ length (replicate (b - a) p)) (mask-all is_optional p refl (b - a)) (mask_no is_optional q refl a)
     ∙ (let z : 2 ^ (b - a) - 1 + 0 * 2 ^ length (replicate (b - a) p) ≡ 2 ^ (b - a) - 1 = rw zero-mul (add-zero _) in z))
 
-pub repeat_mask : (fold : Bool) (used : ℕ) (d : Model.Kind) (o : Model.Often) → 2 ^ repeat_count (kind_of used d) (often_of o) - 1 ≡ mask_from is_repeating (kind_positions fold d o)
+pub repeat_mask : (fold : Bool) (d : Model.Kind) (o : Model.Often) → 2 ^ repeat_count (kind_of fold d) (often_of o) - 1 ≡ mask_from is_repeating (kind_positions fold d o)
 unfolding mask_from
-repeat_mask fold used (byte b) o = one_repeat o
-repeat_mask fold used any o = one_repeat o
-repeat_mask fold used (class t rs) o = one_repeat o
-repeat_mask fold used (gap a b) o =
+repeat_mask fold (byte b) o = one_repeat o
+repeat_mask fold any o = one_repeat o
+repeat_mask fold (class t rs) o = one_repeat o
+repeat_mask fold (gap a b) o =
     let p = position fold any optional in
     let q = position fold any once in
     sym

@@ -3,25 +3,25 @@ use mathlib.Core.Path.{◌≡◌, refl, sym, ap, ap₂, ◌∙◌}
 use mathlib.Core.List.{List, [], ◌∷◌}
 use mathlib.Core.Bool.{Bool, true, false, cond}
 use Prim.Native.Nat.{ℕ, zero, suc, pred, ◌+◌}
-use native.Mathlib.Omega.{arith}
 use native.Mathlib.Numerals.{add-one}
 use lib.Dec.{eqb, eqb→eq}
 use lib.ListN.{drop}
 use lib.Seq.{drop-drop}
-use Rattle.model.specs.RefusalNumbers.{mark_fault, byte_fault, outer_gap}
+use Rattle.model.specs.RefusalNumbers.{mark_fault, byte_fault}
 use Rattle.model.specs.Ascii.{ascii}
 use Rattle.model.specs.RuleText as Model
-use Rattle.model.specs.RuleText.{fold_flag, rule_limit, position_limit, one_of, may_escape, kind_set, byte, any, class, bad, good, Items, faulty, items, items_from, some_below, class_of, class_at, gap_at, escape_at, kind_at, often_after, mark_bytes}
+use Rattle.model.specs.RuleText.{fold_flag, one_of, may_escape, kind_set, byte, any, class, bad, good, Items, faulty, items, items_from, some_below, class_of, class_at, gap_at, escape_at, kind_at, often_after, mark_bytes}
 use Rattle.model.specs.Spelling.{Spelled, spelled_from, spelled, unequal, Outer, inner, outer_at, first_outer, last_outer, either_outer, outer}
-use Rattle.model.specs.NumberedAnswers.{Parsed, refused, accepted, parse_stored, or_outer, outer_checked}
+use Rattle.model.specs.NumberedAnswers.{or_outer, outer_checked, parse}
 use Rattle.model.proofs.Truth.{T-to}
 use Rattle.model.proofs.Accepted.{spelled-good}
-use Rattle.model.proofs.Refusals.{refusal-row}
+use Rattle.answers.specs.declared.Refusal.TheVariants.{OuterGap}
+use Rattle.answers.specs.declared.Refused.{Refused}
+use Rattle.answers.specs.Answers.{refused_at}
 use Rattle.rule_gap.specs.Bounds.{unequal_kind, unequal_at}
-use Rattle.rule_parser.specs.declared.Prepared.{Prepared}
 use Rattle.rule_parser.specs.declared.StoredRule.{StoredRule}
 use Rattle.rule_parser.specs.Gathering.{last_place}
-use Rattle.rule_parser.specs.Preparing.{refusal_of, prepared_by, prepared_stored, prepared, ReadsStored, Prepares}
+use Rattle.rule_parser.specs.Preparing.{Stores, PreparedRule, RuleRefused}
 
 -- ---- an element is a gap of unequal bounds exactly when one begins at its place, whatever the fold
 
@@ -121,55 +121,29 @@ module _ (fold : Bool) (s : List ℕ) where
               none (ap (spelled fold) e ∙ d) (ap (λ (b : Bool). cond b (outer_at 0) inner) (ap unequal_at e ∙ sym (unequal-kind fold (c ∷ cs)) ∙ ap unequal_kind q))
           by_kind (good k n) q = some _ _ (ap (spelled fold) e ∙ spelled-good fold c cs 0 n k q) (outer-at fold s 0 k n (ap (kind_at fold) e ∙ q))
 
--- ---- a stored rule whose number is 0 is accepted
-
-pub stored-number : (flag : ℕ) (s : List ℕ) → (prepared_stored flag s).number ≡ 0 → (es : List Model.Element) × (parse_stored (fold_flag flag) s ≡ accepted es)
-unfolding prepared_stored
-stored-number flag s z = go (parse_stored (fold_flag flag) s) refl
-  where
-    go : (x : Parsed) → parse_stored (fold_flag flag) s ≡ x → (es : List Model.Element) × (parse_stored (fold_flag flag) s ≡ accepted es)
-    go (accepted es) q = (es, q)
-    go (refused n p) q =
-        let l = (refusal-row position_limit (fold_flag flag) rule_limit s n p q).0 in
-        let e : n ≡ 0 = sym (ap (λ (y : Parsed). (prepared_by (fold_flag flag) y).number) q) ∙ z in
-        absurd (omega arith)
-
 -- ---- `prepare`
 
-module _ (flag : ℕ) (s : List ℕ) (r : StoredRule) (rs : ReadsStored flag s r) where
-  pub stored_refused : (r.prepared.number ≡ 0 → ⊥) → Prepares flag s r.prepared
-  unfolding prepared prepared_stored
-  stored_refused z = go (parse_stored (fold_flag flag) s) refl
-    where
-      go : (x : Parsed) → parse_stored (fold_flag flag) s ≡ x → Prepares flag s r.prepared
-      go (refused n p) q = record { is = rs.is ∙ ap (prepared_by (fold_flag flag)) q ∙ sym (ap (λ (x : Parsed). prepared_by (fold_flag flag) (outer_checked (fold_flag flag) s x)) q); few = rs.few }
-      go (accepted es) q = absurd (z (ap (λ (y : Prepared). y.number) (rs.is ∙ ap (prepared_by (fold_flag flag)) q)))
-
-  module _ (z : r.prepared.number ≡ 0) where
-    stored : (es : List Model.Element) × (parse_stored (fold_flag flag) s ≡ accepted es)
-    stored = stored-number flag s (sym (ap (λ (y : Prepared). y.number) rs.is) ∙ z)
-
-    by_outer : (o : Outer) → either_outer (outer_if s 0) (outer_if s r.last) ≡ o → prepared flag s ≡ prepared_by (fold_flag flag) (or_outer stored.0 o)
-    unfolding prepared stored
+module _ (flag : ℕ) (s : List ℕ) where
+  module _ (r : StoredRule) (rs : Stores flag s r) where
+    by_outer : (o : Outer) → either_outer (outer_if s 0) (outer_if s r.last) ≡ o → parse (fold_flag flag) s ≡ or_outer rs.prepared.elements o
     by_outer o e =
-        ap (λ (x : Parsed). prepared_by (fold_flag flag) (outer_checked (fold_flag flag) s x)) stored.1
-        ∙ ap (λ (x : Outer). prepared_by (fold_flag flag) (or_outer stored.0 x))
-        (outer-is (fold_flag flag) s ∙ sym (ap (λ (i : ℕ). either_outer (outer_if s 0) (outer_if s i)) (rs.last-is z)) ∙ e)
+        ap (outer_checked (fold_flag flag) s) rs.prepared.parses
+        ∙ ap (or_outer rs.prepared.elements)
+        (outer-is (fold_flag flag) s ∙ sym (ap (λ (i : ℕ). either_outer (outer_if s 0) (outer_if s i)) rs.last-is) ∙ e)
 
-    refuses : (p : ℕ) → either_outer (outer_if s 0) (outer_if s r.last) ≡ outer_at p → (x : Prepared) → x ≡ refusal_of outer_gap p → Prepares flag s x
-    refuses p e x ex = record { is = ex ∙ sym (by_outer (outer_at p) e); few = rw ex (omega arith) }
+    refuses : (p : ℕ) → either_outer (outer_if s 0) (outer_if s r.last) ≡ outer_at p → (x : Refused) → x ≡ refused_at OuterGap p → RuleRefused flag s x
+    refuses p e x ex = rw ex (record { is = by_outer (outer_at p) e })
 
     module _ (b : Bool) (eb : b ≡ unequal_at (drop 0 s)) where
-      pub first-gap : b ≡ true → (x : Prepared) → x ≡ refusal_of outer_gap 0 → Prepares flag s x
+      pub first-gap : b ≡ true → (x : Refused) → x ≡ refused_at OuterGap 0 → RuleRefused flag s x
       first-gap t x ex = refuses 0 (ap (λ (y : Bool). either_outer (cond y (outer_at 0) inner) (outer_if s r.last)) (sym eb ∙ t)) x ex
 
       module _ (f : b ≡ false) (d : Bool) (ed : d ≡ unequal_at (drop r.last s)) where
         both : (y : Bool) → d ≡ y → either_outer (outer_if s 0) (outer_if s r.last) ≡ cond y (outer_at r.last) inner
         both y t = ap₂ (λ (v w : Bool). either_outer (cond v (outer_at 0) inner) (cond w (outer_at r.last) inner)) (sym eb ∙ f) (sym ed ∙ t)
 
-        pub last-gap : d ≡ true → (x : Prepared) → x ≡ refusal_of outer_gap r.last → Prepares flag s x
+        pub last-gap : d ≡ true → (x : Refused) → x ≡ refused_at OuterGap r.last → RuleRefused flag s x
         last-gap t x ex = refuses r.last (both true t) x ex
 
-        pub no_outer : d ≡ false → Prepares flag s r.prepared
-        unfolding prepared_stored
-        no_outer t = record { is = rs.is ∙ ap (prepared_by (fold_flag flag)) stored.1 ∙ sym (by_outer inner (both false t)); few = rs.few }
+        pub no_outer : d ≡ false → PreparedRule flag s r.prepared
+        no_outer t = record { elements = rs.prepared.elements; parses = by_outer inner (both false t); is = rs.prepared.is; few = rs.prepared.few }

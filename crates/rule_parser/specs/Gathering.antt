@@ -1,9 +1,12 @@
 -- What reading a rule makes of its elements: the count of their positions, and their masks. Assumes nothing.
-use Rattle.std.specs.Prelude.{◌≡◌, Bool, List, [], ◌∷◌, ℕ, ◌+◌, ◌-◌, ◌*◌, ◌^◌, ◌≤◌, length}
+use Rattle.std.specs.Prelude.{◌≡◌, Bool, List, [], ◌∷◌, ℕ, ◌+◌, ◌-◌, ◌*◌, ◌^◌, ◌≤◌, length, Result, MatchResult}
 use Rattle.model.specs.Occurrence.{Position}
+use Rattle.model.specs.RuleText as Model
 use Rattle.model.specs.RuleText.{position_limit, positions}
 use Rattle.model.specs.Spelling.{Spelled, spelled}
 use Rattle.model.specs.NumberedAnswers.{Parsed, refused, accepted, elements_from}
+use Rattle.answers.specs.declared.Refused.{Refused}
+use Rattle.answers.specs.Answers.{number_of}
 use Rattle.shift_and.specs.ForwardStep as Step
 use Rattle.shift_and.specs.Masks.{mask_from}
 use Rattle.shift_and_wide.specs.Wides.{number, words_of, no_bits, ones_from, laid_on}
@@ -14,8 +17,7 @@ use Rattle.rule_element.specs.declared.Often.TheVariants.{Once, Optional, Repeat
 use Rattle.rule_element.specs.declared.Element.{Element}
 use Rattle.rule_element.specs.Reading.{size_of, KindFits}
 use Rattle.rule_parser.specs.declared.RuleMasks.{RuleMasks}
-use Rattle.rule_parser.specs.declared.Outcome.{Outcome}
-use Rattle.rule_parser.specs.declared.Outcome.TheVariants.{Accepted, Refused}
+use Rattle.rule_parser.specs.declared.ReadRule.{ReadRule}
 
 abbrev pub is_optional : Position → Bool
 is_optional p = p.optional
@@ -81,26 +83,31 @@ abbrev pub last_place : ℕ → List Spelled → ℕ
 last_place p [] = p
 last_place p (s ∷ ss) = last_place s.place ss
 
--- The answer of the rule's reader, case by case: the number and place of the refusal; or, above what t has, the count and the masks of the positions of
--- the elements, and the last one's place.
-abbrev pub gather : (fold : Bool) → RuleMasks → (last : ℕ) → Parsed → Outcome
-gather fold t last (refused n p) = Refused n p
-gather fold t last (accepted es) = Accepted (record {
-  positions = t.positions + length (positions fold es);
-  optional = words_of (number t.optional + mask_from is_optional (positions fold es) * 2 ^ (t.positions + 1));
-  repeats = words_of (number t.repeats + mask_from is_repeating (positions fold es) * 2 ^ (t.positions + 1));
-}) last
+-- above what t has, the count and the masks of some positions
+abbrev pub gathered : RuleMasks → List Position → RuleMasks
+gathered t ps = record {
+  positions = t.positions + length ps;
+  optional = words_of (number t.optional + mask_from is_optional ps * 2 ^ (t.positions + 1));
+  repeats = words_of (number t.repeats + mask_from is_repeating ps * 2 ^ (t.positions + 1));
+}
 
-abbrev pub FewPositions : Outcome → Type 0
-FewPositions (Refused n p) = Unit {0}
-FewPositions (Accepted t last) = t.positions ≤ position_limit
+-- the elements of a rule as the model reads them: refused with a number and a place, or read to the rule's end
+abbrev pub rule_elements : (fold : Bool) → List ℕ → Parsed
+rule_elements fold s = elements_from position_limit fold 0 0 0 s
 
--- the last element stands in the rule
-abbrev pub LastInside : List ℕ → Outcome → Type 0
-LastInside s (Refused n p) = Unit {0}
-LastInside s (Accepted t last) = last ≤ length s
+-- what the rule's reader makes of elements that are read to the end: their masks, and the last one's place
+pub record Gathers (fold : Bool) (s : List ℕ) (r : ReadRule) : Type 0 where
+  pub elements : List Model.Element
+  pub reads : rule_elements fold s ≡ accepted elements
+  pub masks : r.masks ≡ gathered start (positions fold elements)
+  pub last-is : r.last ≡ last_place 0 (spelled fold s)
+  pub few : r.masks.positions ≤ position_limit
+  -- the last element stands in the rule
+  pub inside : r.last ≤ length s
 
-pub record ReadsRule (fold : Bool) (s : List ℕ) (r : Outcome) : Type 0 where
-  pub is : r ≡ gather fold start (last_place 0 (spelled fold s)) (elements_from position_limit fold 0 0 0 s)
-  pub few : FewPositions r
-  pub inside : LastInside s r
+-- and its refusal: the model's number and place
+pub record ReadRefused (fold : Bool) (s : List ℕ) (e : Refused) : Type 0 where
+  pub is : rule_elements fold s ≡ refused (number_of e.refusal) e.place
+
+abbrev pub ReadsRule : (fold : Bool) → List ℕ → Result ReadRule Refused → Type 0
+ReadsRule fold s r = MatchResult r (Gathers fold s) (ReadRefused fold s)

@@ -6,19 +6,17 @@ ghost use Rattle.std.specs.Prelude.{◌≡◌, ◌≤◌, length};
 ghost use Rattle.model.specs.RuleText.{fold_flag, rule_limit, position_limit};
 ghost use Rattle.rule_element.specs.Reading.{KindFits};
 ghost use Rattle.rule_parser.specs.Gathering.{optional_ones, repeat_ones, CountIs, optional_count, repeat_count, Fits, gained_by, required_of, ReadsRule};
-ghost use Rattle.rule_parser.specs.Preparing.{refusal_of, refused_stored, ReadsStored, PreparesStored, Prepares};
+ghost use Rattle.rule_parser.specs.Preparing.{ReadsStored, PreparesStored, Prepares};
 
+use answers::{Refusal, Refused};
 use limits::RULE_LIMIT;
-use rule_element::{Element, ElementAnswer, Kind, Often};
+use rule_element::{Element, Kind, Often};
 use shift_and_wide::Wide;
 
-// A rule's answer: number 0 and place 0, the count of its positions, its shortest length, and the
-// masks of the positions that are optional and that repeat. Or the number and place of the refusal,
-// and zeros.
+// What is prepared of an accepted rule: the count of its positions, its shortest length, and the masks of the positions that are
+// optional and that repeat.
 #[derive(Clone, Copy)]
 pub struct Prepared {
-    pub number: u32,
-    pub place: u32,
     pub positions: u32,
     pub shortest: u32,
     pub optional: Wide,
@@ -36,21 +34,25 @@ pub struct RuleMasks {
     pub repeats: Wide,
 }
 
-// What a rule's elements make, and the place of the last one; or the number and place of the leftmost fault.
-#[derive(Drop)]
-pub enum Outcome {
-    Accepted(RuleMasks, usize),
-    Refused(u32, u32),
+// What a rule's elements make, and the place of the last one.
+#[derive(Clone, Copy)]
+pub struct ReadRule {
+    pub masks: RuleMasks,
+    pub last: usize,
+}
+
+// A stored rule that is accepted, and the place of its last element.
+#[derive(Clone, Copy)]
+pub struct StoredRule {
+    pub prepared: Prepared,
+    pub last: usize,
 }
 
 // "With the fold flag set (any number but 0)".
 pub fn folds(fold: u32) -> bool
     ensures { result ≡ fold_flag fold }
 {
-    if fold == 0 {
-        return false;
-    }
-    true
+    fold != 0
 }
 
 // How many positions are optional of an element that makes one.
@@ -58,10 +60,8 @@ fn optional_ones(often: Often) -> u32
     ensures { result ≡ optional_ones often }
 {
     match often {
-        Often::Once => 0,
-        Often::Optional => 1,
-        Often::Repeatable => 0,
-        Often::Both => 1,
+        Often::Optional | Often::Both => 1,
+        Often::Once | Often::Repeatable => 0,
     }
 }
 
@@ -70,10 +70,8 @@ fn repeat_ones(often: Often) -> u32
     ensures { result ≡ repeat_ones often }
 {
     match often {
-        Often::Once => 0,
-        Often::Optional => 0,
-        Often::Repeatable => 1,
-        Often::Both => 1,
+        Often::Repeatable | Often::Both => 1,
+        Often::Once | Often::Optional => 0,
     }
 }
 
@@ -123,7 +121,7 @@ fn add_element(t: RuleMasks, element: Element) -> RuleMasks
 }
 
 // The elements of a rule, from left to right, up to the leftmost fault.
-fn read_rule(rule: &[u8], fold: bool) -> Outcome
+fn read_rule(rule: &[u8], fold: bool) -> Result<ReadRule, Refused>
     requires { length rule.now ≤ rule_limit }
     ensures { ReadsRule fold rule.now result }
 {
@@ -136,21 +134,18 @@ fn read_rule(rule: &[u8], fold: bool) -> Outcome
     let mut at = 0;
     let mut last = 0;
     while at < rule.len() {
-        let e = rule_element::read_element(rule, at, fold, t.positions);
-        let answer = e.answer;
-        match answer {
-            ElementAnswer::Refused(number) => {
-                let place = at as u32;
-                return Outcome::Refused(number, place);
-            }
-            ElementAnswer::Got(element, next) => {
+        match rule_element::read_element(rule, at, fold, t.positions) {
+            Ok((element, next)) => {
                 t = add_element(t, element);
                 last = at;
                 at = next;
             }
+            Err(refusal) => {
+                return Err(refusal.at(at as u32));
+            }
         }
     }
-    Outcome::Accepted(t, last)
+    Ok(ReadRule { masks: t, last })
 }
 
 // How many of all the positions are not optional.
@@ -164,100 +159,53 @@ fn required(masks: RuleMasks) -> u32
     shift_and_wide::shortest(all, optional)
 }
 
-// What a refused rule comes to.
-pub fn refusal(number: u32, place: u32) -> Prepared
-    ensures { result ≡ refusal_of number place }
-{
-    let none = shift_and_wide::no_bits();
-    Prepared {
-        number: number,
-        place: place,
-        positions: 0,
-        shortest: 0,
-        optional: none,
-        repeats: none,
-    }
-}
-
-// A stored rule's answer, and the place of its last element: of a refused one 0.
-#[derive(Drop)]
-pub struct StoredRule {
-    pub prepared: Prepared,
-    pub last: usize,
-}
-
-// Nothing more is said of a refused one.
-fn refuse_stored(number: u32, place: u32) -> StoredRule
-    ensures { result ≡ refused_stored number place }
-{
-    StoredRule {
-        prepared: refusal(number, place),
-        last: 0,
-    }
-}
-
-// What a stored rule says, or with which number and place it is refused: rows 1 to 8.
-fn read_stored(rule: &[u8], fold: u32) -> StoredRule
+// What a stored rule says, or why and where it is refused: rows 1 to 8.
+fn read_stored(rule: &[u8], fold: u32) -> Result<StoredRule, Refused>
     ensures { ReadsStored fold rule.now result }
 {
     if rule.len() == 0 {
-        return refuse_stored(answers::RULE_EMPTY, 0);
+        return Err(Refusal::RuleEmpty.at(0));
     }
     if RULE_LIMIT < rule.len() {
-        return refuse_stored(answers::RULE_LONG, RULE_LIMIT as u32);
+        return Err(Refusal::RuleLong.at(RULE_LIMIT as u32));
     }
     let f = folds(fold);
-    let read = read_rule(rule, f);
-    match read {
-        Outcome::Refused(number, place) => {
-            return refuse_stored(number, place);
-        }
-        Outcome::Accepted(masks, last) => {
-            let m = required(masks);
-            if m == 0 {
-                let end = rule.len() as u32;
-                return refuse_stored(answers::ADMITS_EMPTY, end);
-            }
-            let optional = masks.optional;
-            let repeats = masks.repeats;
-            return StoredRule {
-                prepared: Prepared {
-                    number: 0,
-                    place: 0,
-                    positions: masks.positions,
-                    shortest: m,
-                    optional: optional,
-                    repeats: repeats,
-                },
-                last: last,
-            };
-        }
+    let read = read_rule(rule, f)?;
+    let m = required(read.masks);
+    if m == 0 {
+        return Err(Refusal::AdmitsEmpty.at(rule.len() as u32));
     }
+    let prepared = Prepared {
+        positions: read.masks.positions,
+        shortest: m,
+        optional: read.masks.optional,
+        repeats: read.masks.repeats,
+    };
+    Ok(StoredRule {
+        prepared,
+        last: read.last,
+    })
 }
 
 // What a stored rule says. Note 10's rewriter alone asks no more of a rule.
-pub fn prepare_stored(rule: &[u8], fold: u32) -> Prepared
+pub fn prepare_stored(rule: &[u8], fold: u32) -> Result<Prepared, Refused>
     ensures { PreparesStored fold rule.now result }
 {
-    let stored = read_stored(rule, fold);
-    stored.prepared
+    let stored = read_stored(rule, fold)?;
+    Ok(stored.prepared)
 }
 
-// What a rule says, or with which number and place it is refused: rows 1 to 8, then 16, by its first element and its last.
-pub fn prepare(rule: &[u8], fold: u32) -> Prepared
+// What a rule says, or why and where it is refused: rows 1 to 8, then 16, by its first element and its last.
+pub fn prepare(rule: &[u8], fold: u32) -> Result<Prepared, Refused>
     ensures { Prepares fold rule.now result }
 {
-    let stored = read_stored(rule, fold);
-    let p = stored.prepared;
-    if p.number != 0 {
-        return p;
-    }
+    let stored = read_stored(rule, fold)?;
     if rule_gap::unequal_at(rule, 0) {
-        return refusal(answers::OUTER_GAP, 0);
+        return Err(Refusal::OuterGap.at(0));
     }
     let last = stored.last;
     if rule_gap::unequal_at(rule, last) {
-        return refusal(answers::OUTER_GAP, last as u32);
+        return Err(Refusal::OuterGap.at(last as u32));
     }
-    p
+    Ok(stored.prepared)
 }

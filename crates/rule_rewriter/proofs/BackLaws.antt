@@ -10,14 +10,13 @@ use Rattle.model.specs.Occurrence.{stretch}
 use Rattle.model.specs.RuleText.{position_limit}
 use Rattle.model.specs.Spelling.{Spelled, spelled_from, text_by}
 use Rattle.model.specs.Rewriter.{dots, from_front, from_back}
+use Rattle.answers.specs.declared.Refusal.{Refusal}
 use Rattle.rule_element.specs.declared.Element.{Element}
-use Rattle.rule_element.specs.declared.ElementAnswer.TheVariants.{Got, Refused}
-use Rattle.rule_element.specs.declared.ElementResult.{ElementResult}
+use Rattle.std.specs.Prelude.{Ok, Err}
 use Rattle.rule_element.specs.Reading.{size_of, ElementMoves, ReadsElement}
 use Rattle.rule_element.proofs.RuleReading.{spelled-end, Found}
 use Rattle.rule_spelling.proofs.OuterLaws.{dots-reverse}
-use Rattle.rule_rewriter.specs.declared.Step.{Step}
-use Rattle.rule_rewriter.specs.declared.Step.TheVariants.{Stays, Dots}
+use Rattle.std.specs.Prelude.{Option, None, Some}
 use Rattle.rule_rewriter.specs.declared.Cut.{Cut}
 use Rattle.rule_rewriter.specs.Rewriting.{step_of, cut_by, dot_bytes, ReadableFrom, BackIs}
 use Rattle.rule_rewriter.proofs.StepLaws.{step_few, back_by, back_by_lem}
@@ -91,25 +90,25 @@ module _ (fold : Bool) (s : List ℕ) (from : ℕ) where
           few = g.few;
         }
 
-    module _ (l : at < length s) (r : ElementResult) (rc : ReadsElement fold used s at r) where
-      pub back_never : (k : ℕ) → r.answer ≡ Refused k → BackIs fold s from cut
-      back_never k e = reads_on fold s at used g.readable l r rc k e
+    module _ (l : at < length s) where
+      pub back_never : (x : Refusal) → ReadsElement fold used s at (Err x) → BackIs fold s from cut
+      back_never x r = reads_on fold s at used g.readable l x r
 
-      module _ (element : Element) (next : ℕ) (e : r.answer ≡ Got element next) where
-        abbrev found : Found fold used s at l r rc element next e
-        found = next-found fold s at used g.readable l r rc element next e
+      module _ (element : Element) (next : ℕ) (rc : ReadsElement fold used s at (Ok (element, next))) where
+        abbrev found : Found fold used s at l element next rc
+        found = next-found fold s at used g.readable l element next rc
 
         moves : ElementMoves used s at element next
-        moves = next-moves fold s at used g.readable l r rc element next e
+        moves = next-moves fold s at used g.readable l element next rc
 
         abbrev last : Spelled
         last = record { element = record { kind = found.kind; often = found.often }; place = at; bytes = take (next - at) (drop at s) }
 
         pub back_less : length s - next < length s - at
-        back_less = next_less fold s at used g.readable l r rc element next e
+        back_less = next_less fold s at used g.readable l element next rc
 
         pub back-room : (n : ℕ) → n ≡ size_of element.kind → used + n < 2 ^ 32
-        back-room n en = next-room fold s at used g.readable l r rc element next e n en
+        back-room n en = next-room fold s at used g.readable l element next rc n en
 
         text-next : text_by (g.done ++ (last ∷ [])) ≡ stretch s from next
         text-next =
@@ -122,14 +121,14 @@ module _ (fold : Bool) (s : List ℕ) (from : ℕ) where
         dotted-text d ts = text-append (dots d) ts ∙ ap (λ (x : List ℕ). x ++ text_by ts) (dots-text d)
 
         -- what a step leaves
-        left_by : (x : Step) (c : Cut) → c ≡ cut_by x at next cut → (d : ℕ)
+        left_by : (x : Option ℕ) (c : Cut) → c ≡ cut_by x at next cut → (d : ℕ)
             → text_by (back_by x (dots d ++ g.done) (from_back (dots d ++ g.done)) ((dots d ++ g.done) ++ (last ∷ []))) ≡ dot_bytes d ++ (stretch s from c.to ++ dot_bytes c.dots)
-        left_by Stays c ec d =
+        left_by None c ec d =
             ap text_by (append_assoc (dots d) g.done (last ∷ [])) ∙ dotted-text d (g.done ++ (last ∷ []))
             ∙ ap (λ (x : List ℕ). dot_bytes d ++ x) (text-next ∙ sym (append-nil (stretch s from next)))
             ∙ sym (ap (λ (y : Cut). dot_bytes d ++ (stretch s from y.to ++ dot_bytes y.dots)) ec)
-        left_by (Dots zero) c ec d = g.left d ∙ sym (ap (λ (y : Cut). dot_bytes d ++ (stretch s from y.to ++ dot_bytes y.dots)) ec)
-        left_by (Dots (suc a)) c ec d =
+        left_by (Some zero) c ec d = g.left d ∙ sym (ap (λ (y : Cut). dot_bytes d ++ (stretch s from y.to ++ dot_bytes y.dots)) ec)
+        left_by (Some (suc a)) c ec d =
             ap text_by (append_assoc (dots d) g.done (dots (suc a))) ∙ dotted-text d (g.done ++ dots (suc a))
             ∙ ap (λ (x : List ℕ). dot_bytes d ++ x) (text-append g.done (dots (suc a)) ∙ ap₂ (λ (x y : List ℕ). x ++ y) g.text (dots-text (suc a)))
             ∙ sym (ap (λ (y : Cut). dot_bytes d ++ (stretch s from y.to ++ dot_bytes y.dots)) ec)
@@ -140,10 +139,10 @@ module _ (fold : Bool) (s : List ℕ) (from : ℕ) where
           pub behind : c.to ≤ next
           pub few : c.dots ≤ position_limit
 
-        cut_fits : (x : Step) → x ≡ step_of element.kind → (c : Cut) → c ≡ cut_by x at next cut → CutFits c
-        cut_fits Stays ex c ec = let a = moves.ahead in let h = g.ahead in rw ec (record { ordered = omega arith; behind = omega arith; few = omega arith })
-        cut_fits (Dots zero) ex c ec = let a = moves.ahead in let h = g.behind in rw ec (record { ordered = g.ordered; behind = omega arith; few = g.few })
-        cut_fits (Dots (suc a)) ex c ec = let b = moves.ahead in rw ec (record { ordered = g.ahead; behind = omega arith; few = step_few element.kind moves.fits (suc a) ex })
+        cut_fits : (x : Option ℕ) → x ≡ step_of element.kind → (c : Cut) → c ≡ cut_by x at next cut → CutFits c
+        cut_fits None ex c ec = let a = moves.ahead in let h = g.ahead in rw ec (record { ordered = omega arith; behind = omega arith; few = omega arith })
+        cut_fits (Some zero) ex c ec = let a = moves.ahead in let h = g.behind in rw ec (record { ordered = g.ordered; behind = omega arith; few = g.few })
+        cut_fits (Some (suc a)) ex c ec = let b = moves.ahead in rw ec (record { ordered = g.ahead; behind = omega arith; few = step_few element.kind moves.fits (suc a) ex })
 
         pub back-turn : (c : Cut) → c ≡ cut_by (step_of element.kind) at next cut → (n : ℕ) → n ≡ size_of element.kind → Backing fold s from next (used + n) c
         back-turn c ec n en =
@@ -151,15 +150,15 @@ module _ (fold : Bool) (s : List ℕ) (from : ℕ) where
             let a = moves.ahead in
             let h = g.ahead in
             record {
-              readable = next-readable fold s at used g.readable l r rc element next e n en;
+              readable = next-readable fold s at used g.readable l element next rc n en;
               ahead = omega arith;
               done = g.done ++ (last ∷ []);
               joined = append_assoc g.done (last ∷ []) (spelled_from fold 0 next (drop next s)) ∙ sym (ap (λ (x : List Spelled). g.done ++ x) found.spells) ∙ g.joined;
               text = text-next;
               left = λ d.
                   ap (λ (x : List Spelled). text_by (from_back x)) (sym (append_assoc (dots d) g.done (last ∷ [])))
-                  ∙ ap text_by (back_by_lem used last (dots d ++ g.done))
-                  ∙ ap (λ (x : Step). text_by (back_by x (dots d ++ g.done) (from_back (dots d ++ g.done)) ((dots d ++ g.done) ++ (last ∷ [])))) (sym (same_step fold s at used g.readable l r rc element next e))
+                  ∙ ap text_by (back_by_lem fold last (dots d ++ g.done))
+                  ∙ ap (λ (x : Option ℕ). text_by (back_by x (dots d ++ g.done) (from_back (dots d ++ g.done)) ((dots d ++ g.done) ++ (last ∷ [])))) (sym (same_step fold s at used g.readable l element next rc))
                   ∙ left_by (step_of element.kind) c ec d;
               ordered = f.ordered;
               behind = f.behind;

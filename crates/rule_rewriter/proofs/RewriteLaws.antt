@@ -8,22 +8,22 @@ use lib.ListN.{length, take, drop, replicate, length-append, length-replicate}
 use lib.Seq.{sets, length-sets, length-slice}
 use borrow.Author.Tests.{lt-ltb, le-ltb}
 use borrow.Rule.Slice.PartMut.{mid_of}
-use Rattle.model.specs.RefusalNumbers.{rule_long, too_short}
 use Rattle.model.specs.Occurrence.{stretch}
-use Rattle.model.specs.RuleText as Model
 use Rattle.model.specs.RuleText.{fold_flag, rule_limit, position_limit}
 use Rattle.model.specs.Spelling.{Spelled, text_by}
 use Rattle.model.specs.NumberedAnswers.{Parsed, refused, accepted, parse_stored, overwrite, TextAnswer, turns_down, writes, text_buffer}
 use Rattle.model.specs.Rewriter.{from_back, rewritten, finished_text, rewrite_by, rewrite}
 use Rattle.model.proofs.Accepted.{ParsedOk, parsed_ok}
 use Rattle.model.proofs.LentLists.{sets-append, sets-overwrite}
+use Rattle.answers.specs.declared.Refusal.{Refusal}
+use Rattle.answers.specs.declared.Refusal.TheVariants.{RuleLong, TooShort}
+use Rattle.answers.specs.declared.Refused.{Refused}
 use Rattle.answers.specs.declared.Text.{Text}
-use Rattle.answers.specs.Answers.{refusing_text, written_text}
+use Rattle.answers.specs.Answers.{number_of, refused_at, refusing_text, written_text}
 use Rattle.text_writer.specs.Writing.{TailCopied, Filled, text_answer}
 use Rattle.text_writer.proofs.WriteLaws.{answered}
 use Rattle.rule_parser.specs.declared.Prepared.{Prepared}
-use Rattle.rule_parser.specs.Preparing.{prepared_by, prepared_stored}
-use Rattle.rule_parser.proofs.OuterGaps.{stored-number}
+use Rattle.rule_parser.specs.Preparing.{PreparedStored, StoredRefused}
 use Rattle.rule_rewriter.specs.declared.Front.{Front}
 use Rattle.rule_rewriter.specs.declared.Cut.{Cut}
 use Rattle.rule_rewriter.specs.declared.Rewriting.{Rewriting}
@@ -79,33 +79,26 @@ module _ (flag : ℕ) (s out : List ℕ) where
   by_answer : (x : TextAnswer) → rewrite (fold_flag flag) s (length out) ≡ x → (t : Text) → t ≡ text_answer x → (out' : List ℕ) → out' ≡ text_buffer x out → RewriteIs flag s out t out'
   by_answer x e = answered (rewrite (fold_flag flag) s (length out)) x e out
 
-  pub too_short_lem : length out < rule_limit → (t : Text) → t ≡ refusing_text too_short 0 → RewriteIs flag s out t out
-  too_short_lem l t et = by_answer (turns_down too_short 0) (rw (lt-ltb (length out) rule_limit l)) t et out refl
+  refuses : (x : Refusal) (k : ℕ) → rewrite (fold_flag flag) s (length out) ≡ turns_down (number_of x) k → (e : Refused) → e ≡ refused_at x k → RewriteIs flag s out (refusing_text (number_of e.refusal) e.place) out
+  refuses x k q e ee = rw ee (by_answer (turns_down (number_of x) k) q (refusing_text (number_of x) k) refl out refl)
 
-  module _ (l : rule_limit ≤ length out) (p : Prepared) (hp : p ≡ prepared_stored flag s) where
+  pub too_short_lem : length out < rule_limit → (e : Refused) → e ≡ refused_at TooShort 0 → RewriteIs flag s out (refusing_text (number_of e.refusal) e.place) out
+  too_short_lem l = refuses TooShort 0 (rw (lt-ltb (length out) rule_limit l))
+
+  module _ (l : rule_limit ≤ length out) where
     by_rule : (x : Parsed) → parse_stored (fold_flag flag) s ≡ x → rewrite (fold_flag flag) s (length out) ≡ rewrite_by (fold_flag flag) s x
     by_rule x e = rw (le-ltb (length out) rule_limit l, e)
 
-    pub never_rule : (p.number ≡ 0 → ⊥) → (t : Text) → t ≡ refusing_text p.number p.place → RewriteIs flag s out t out
-    unfolding prepared_stored
-    never_rule z t et = go (parse_stored (fold_flag flag) s) refl
-      where
-        go : (x : Parsed) → parse_stored (fold_flag flag) s ≡ x → RewriteIs flag s out t out
-        go (refused n k) e =
-            let q = hp ∙ ap (prepared_by (fold_flag flag)) e in
-            by_answer (turns_down n k) (by_rule (refused n k) e) t (et ∙ ap (λ (y : Prepared). refusing_text y.number y.place) q) out refl
-        go (accepted es) e = absurd (z (ap (λ (y : Prepared). y.number) (hp ∙ ap (prepared_by (fold_flag flag)) e)))
+    pub never_rule : (e : Refused) → StoredRefused flag s e → RewriteIs flag s out (refusing_text (number_of e.refusal) e.place) out
+    never_rule e r = refuses e.refusal e.place (by_rule (refused (number_of e.refusal) e.place) r.is) e refl
 
-    module _ (z : p.number ≡ 0) where
-      stored : (es : List Model.Element) × (parse_stored (fold_flag flag) s ≡ accepted es)
-      stored = stored-number flag s (sym (ap (λ (y : Prepared). y.number) hp) ∙ z)
-
-      fine : ParsedOk rule_limit position_limit (fold_flag flag) s stored.0
-      fine = parsed_ok rule_limit position_limit (fold_flag flag) s stored.0 stored.1
+    module _ (p : Prepared) (hp : PreparedStored flag s p) where
+      fine : ParsedOk rule_limit position_limit (fold_flag flag) s hp.elements
+      fine = parsed_ok rule_limit position_limit (fold_flag flag) s hp.elements hp.parses
 
       module _ (f : Bool) (ef : f ≡ fold_flag flag) where
         pub stored-readable : Readable f s
-        stored-readable = rw ef (record { left = stored.0; rest = fine.reads; within = omega arith; inside = omega arith })
+        stored-readable = rw ef (record { left = hp.elements; rest = fine.reads; within = omega arith; inside = omega arith })
 
         module _ (r : Rewriting) (hr : RewritingIs f s r) where
           pub stored-fits : Fits rule_limit r
@@ -116,12 +109,12 @@ module _ (flag : ℕ) (s out : List ℕ) where
             long = ap (λ (b : Bool). length (rewritten b s)) (sym ef) ∙ ap length hr.is ∙ text-length s r hr.fits ∙ sym en
 
             by_text : rewrite (fold_flag flag) s (length out) ≡ finished_text (rewritten (fold_flag flag) s)
-            by_text = by_rule (accepted stored.0) stored.1
+            by_text = by_rule (accepted hp.elements) hp.parses
 
-            pub past_limit : rule_limit < n → (t : Text) → t ≡ refusing_text rule_long rule_limit → RewriteIs flag s out t out
-            past_limit k t et = by_answer (turns_down rule_long rule_limit) (by_text ∙ rw (lt-ltb rule_limit (length (rewritten (fold_flag flag) s)) (omega (arith, long)))) t et out refl
+            pub past_limit : rule_limit < n → (e : Refused) → e ≡ refused_at RuleLong rule_limit → RewriteIs flag s out (refusing_text (number_of e.refusal) e.place) out
+            past_limit k = refuses RuleLong rule_limit (by_text ∙ rw (lt-ltb rule_limit (length (rewritten (fold_flag flag) s)) (omega (arith, long))))
 
-            pub rewrites : n ≤ rule_limit → (out' : List ℕ) → out' ≡ overwrite out (text_of s r) → (t : Text) → t ≡ written_text n → RewriteIs flag s out t out'
-            rewrites k out' eo t et =
+            pub rewrites : n ≤ rule_limit → (out' : List ℕ) → out' ≡ overwrite out (text_of s r) → RewriteIs flag s out (written_text n) out'
+            rewrites k out' eo =
                 by_answer (writes (rewritten (fold_flag flag) s)) (by_text ∙ rw (le-ltb rule_limit (length (rewritten (fold_flag flag) s)) (omega (arith, long))))
-                t (et ∙ sym (ap written_text long)) out' (eo ∙ sym (ap (overwrite out) (ap (λ (b : Bool). rewritten b s) (sym ef) ∙ hr.is)))
+                (written_text n) (sym (ap written_text long)) out' (eo ∙ sym (ap (overwrite out) (ap (λ (b : Bool). rewritten b s) (sym ef) ∙ hr.is)))

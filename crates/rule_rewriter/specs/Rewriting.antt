@@ -1,5 +1,5 @@
 -- What the steps of the rewriter leave of a rule, as dots and a stretch of its bytes, and what a rewriting answers. Assumes nothing.
-use Rattle.std.specs.Prelude.{◌≡◌, Bool, cond, List, ◌++◌, ℕ, zero, suc, ◌+◌, ◌-◌, ◌≤◌, ltb, length, drop, replicate}
+use Rattle.std.specs.Prelude.{◌≡◌, Bool, cond, List, ◌++◌, ℕ, zero, suc, ◌+◌, ◌-◌, ◌≤◌, ltb, length, drop, replicate, Result, MatchResult}
 use Rattle.model.specs.Ascii.{byte_of}
 use Rattle.model.specs.Occurrence.{stretch}
 use Rattle.model.specs.RuleText as Model
@@ -7,29 +7,30 @@ use Rattle.model.specs.RuleText.{fold_flag, position_limit}
 use Rattle.model.specs.Spelling.{spelled_from, text_by}
 use Rattle.model.specs.NumberedAnswers.{accepted, elements_from}
 use Rattle.model.specs.Rewriter.{dots, from_back, front_done, rewritten, rewrite}
+use Rattle.answers.specs.declared.Refused.{Refused}
 use Rattle.answers.specs.declared.Text.{Text}
+use Rattle.answers.specs.Answers.{number_of, refusing_text, written_text}
 use Rattle.text_writer.specs.Writing.{WritesText}
 use Rattle.rule_element.specs.declared.Kind.{Kind}
 use Rattle.rule_element.specs.declared.Kind.TheVariants.{Byte, Any, Class, Gap}
-use Rattle.rule_rewriter.specs.declared.Step.{Step}
-use Rattle.rule_rewriter.specs.declared.Step.TheVariants.{Stays, Dots}
+use Rattle.std.specs.Prelude.{Option, None, Some}
 use Rattle.rule_rewriter.specs.declared.Front.{Front}
 use Rattle.rule_rewriter.specs.declared.Cut.{Cut}
 use Rattle.rule_rewriter.specs.declared.Rewriting.{Rewriting}
 
 -- ---- one step
 
-abbrev pub step_of : Kind → Step
-step_of (Byte b) = Stays
-step_of Any = Stays
-step_of (Class n) = Stays
-step_of (Gap a b) = cond (ltb a b) (Dots a) Stays
+abbrev pub step_of : Kind → Option ℕ
+step_of (Byte b) = None
+step_of Any = None
+step_of (Class n) = None
+step_of (Gap a b) = cond (ltb a b) (Some a) None
 
 -- what the back steps leave with one element more, from `at` up to `next`
-abbrev pub cut_by : Step → (at next : ℕ) → Cut → Cut
-cut_by Stays at next before = record { to = next; dots = 0 }
-cut_by (Dots zero) at next before = before
-cut_by (Dots (suc a)) at next before = record { to = at; dots = suc a }
+abbrev pub cut_by : Option ℕ → (at next : ℕ) → Cut → Cut
+cut_by None at next before = record { to = next; dots = 0 }
+cut_by (Some zero) at next before = before
+cut_by (Some (suc a)) at next before = record { to = at; dots = suc a }
 
 -- ---- all of them
 
@@ -84,3 +85,7 @@ pub record RewritingIs (fold : Bool) (s : List ℕ) (r : Rewriting) : Type 0 whe
 -- its number and place, or its length; and every byte of the buffer
 abbrev pub RewriteIs : (flag : ℕ) (rule out : List ℕ) (r : Text) (out' : List ℕ) → Type 0
 RewriteIs flag rule out r out' = WritesText (rewrite (fold_flag flag) rule (length out)) out r out'
+
+-- the same of the length that is written, or of why and where nothing is
+abbrev pub RewriteTried : (flag : ℕ) (rule out : List ℕ) (r : Result ℕ Refused) (out' : List ℕ) → Type 0
+RewriteTried flag rule out r out' = MatchResult r (λ n. RewriteIs flag rule out (written_text n) out') (λ e. RewriteIs flag rule out (refusing_text (number_of e.refusal) e.place) out')

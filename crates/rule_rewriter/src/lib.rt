@@ -6,18 +6,11 @@ ghost use Rattle.std.specs.Prelude.{◌≡◌, ◌≤◌, length};
 ghost use Rattle.model.specs.RuleText.{rule_limit};
 ghost use Rattle.model.specs.NumberedAnswers.{overwrite};
 ghost use Rattle.rule_element.specs.declared.Kind.TheVariants.{Gap};
-ghost use Rattle.rule_rewriter.specs.Rewriting.{ReadableFrom, Readable, step_of, cut_by, FrontIs, BackIs, text_of, length_of, Fits, RewritingIs, RewriteIs};
+ghost use Rattle.rule_rewriter.specs.Rewriting.{ReadableFrom, Readable, step_of, cut_by, FrontIs, BackIs, text_of, length_of, Fits, RewritingIs, RewriteIs, RewriteTried};
 
-use answers::Text;
+use answers::{Refusal, Refused, Text};
 use limits::RULE_LIMIT;
-use rule_element::{ElementAnswer, Kind};
-
-// What becomes of an outer element: it stays, or so many dots stand in its place.
-#[derive(Drop)]
-pub enum Step {
-    Stays,
-    Dots(u32),
-}
+use rule_element::Kind;
 
 // What the front steps leave: so many dots, and the rule from a place on, before which `used` positions stood.
 #[derive(Drop)]
@@ -43,25 +36,23 @@ pub struct Rewriting {
     pub back: u32,
 }
 
-// "turns such an outer `{a,b}` into a dots"
-fn gap_step(a: u32, b: u32) -> Step
+// "turns such an outer `{a,b}` into a dots": how many dots stand in its place, or none at all if it stays.
+fn gap_step(a: u32, b: u32) -> Option<u32>
     ensures { result ≡ step_of (Gap a b) }
 {
     if a < b {
-        return Step::Dots(a);
+        return Some(a);
     }
-    Step::Stays
+    None
 }
 
-// The step of an element.
-fn step_of(kind: Kind) -> Step
+// The same of an outer element.
+fn step_of(kind: Kind) -> Option<u32>
     ensures { result ≡ step_of kind }
 {
     match kind {
-        Kind::Byte(_) => Step::Stays,
-        Kind::Any => Step::Stays,
-        Kind::Class(_) => Step::Stays,
         Kind::Gap(a, b) => gap_step(a, b),
+        Kind::Byte(_) | Kind::Any | Kind::Class(_) => None,
     }
 }
 
@@ -73,41 +64,34 @@ fn front_steps(rule: &[u8], fold: bool) -> Front
     let mut at = 0;
     let mut used = 0u32;
     while at < rule.len() {
-        let e = rule_element::read_element(rule, at, fold, used);
-        let answer = e.answer;
-        match answer {
-            ElementAnswer::Refused(_) => {
-                return Front {
-                    dots: 0,
-                    from: at,
-                    used: used,
-                };
-            }
-            ElementAnswer::Got(element, next) => {
-                let kind = element.kind;
-                let Step::Dots(a) = step_of(kind) else {
-                    return Front {
-                        dots: 0,
-                        from: at,
-                        used: used,
-                    };
-                };
-                used += rule_element::size(kind);
-                at = next;
-                if 0 < a {
-                    return Front {
-                        dots: a,
-                        from: at,
-                        used: used,
-                    };
-                }
-            }
+        let Ok((element, next)) = rule_element::read_element(rule, at, fold, used) else {
+            return Front {
+                dots: 0,
+                from: at,
+                used,
+            };
+        };
+        let Some(a) = step_of(element.kind) else {
+            return Front {
+                dots: 0,
+                from: at,
+                used,
+            };
+        };
+        used += rule_element::size(element.kind);
+        at = next;
+        if 0 < a {
+            return Front {
+                dots: a,
+                from: at,
+                used,
+            };
         }
     }
     Front {
         dots: 0,
         from: at,
-        used: used,
+        used,
     }
 }
 
@@ -116,7 +100,7 @@ fn front_steps(rule: &[u8], fold: bool) -> Front
 fn cut_after(kind: Kind, at: usize, next: usize, before: Cut) -> Cut
     ensures { result ≡ cut_by (step_of kind) at next before }
 {
-    let Step::Dots(a) = step_of(kind) else {
+    let Some(a) = step_of(kind) else {
         return Cut { to: next, dots: 0 };
     };
     if a == 0 {
@@ -134,19 +118,12 @@ fn back_steps(rule: &[u8], fold: bool, from: usize, before: u32) -> Cut
     let mut used = before;
     let mut cut = Cut { to: from, dots: 0 };
     while at < rule.len() {
-        let e = rule_element::read_element(rule, at, fold, used);
-        let answer = e.answer;
-        match answer {
-            ElementAnswer::Refused(_) => {
-                return cut;
-            }
-            ElementAnswer::Got(element, next) => {
-                let kind = element.kind;
-                cut = cut_after(kind, at, next, cut);
-                used += rule_element::size(kind);
-                at = next;
-            }
-        }
+        let Ok((element, next)) = rule_element::read_element(rule, at, fold, used) else {
+            return cut;
+        };
+        cut = cut_after(element.kind, at, next, cut);
+        used += rule_element::size(element.kind);
+        at = next;
     }
     cut
 }
@@ -187,24 +164,31 @@ fn write(rule: &[u8], r: Rewriting, out: &mut [u8])
     text_writer::fill(out, back, b'.', r.back as usize);
 }
 
-// Rewrites a stored rule into the lent buffer: refused by 9 if that is shorter than a rule may be, then as a stored rule, then by 2 if the
-// finished text is past the limit.
-pub fn rewrite(rule: &[u8], fold: u32, out: &mut [u8]) -> Text
-    ensures { RewriteIs fold rule.now out.old result out.new }
+// Rewrites a stored rule into the lent buffer, and returns the text's length: refused by 9 if the buffer is shorter than a rule may be, then
+// as a stored rule, then by 2 if the finished text is past the limit.
+fn try_rewrite(rule: &[u8], fold: u32, out: &mut [u8]) -> Result<u32, Refused>
+    ensures { RewriteTried fold rule.now out.old result out.new }
 {
     if out.len() < RULE_LIMIT {
-        return answers::refused_text(answers::TOO_SHORT, 0);
+        return Err(Refusal::TooShort.at(0));
     }
-    let p = rule_parser::prepare_stored(rule, fold);
-    if p.number != 0 {
-        return answers::refused_text(p.number, p.place);
-    }
+    rule_parser::prepare_stored(rule, fold)?;
     let f = rule_parser::folds(fold);
     let r = steps(rule, f);
     let n = text_length(r);
     if RULE_LIMIT < n {
-        return answers::refused_text(answers::RULE_LONG, RULE_LIMIT as u32);
+        return Err(Refusal::RuleLong.at(RULE_LIMIT as u32));
     }
     write(rule, r, out);
-    answers::written(n as u32)
+    Ok(n as u32)
+}
+
+// The same, as a host is answered.
+pub fn rewrite(rule: &[u8], fold: u32, out: &mut [u8]) -> Text
+    ensures { RewriteIs fold rule.now out.old result out.new }
+{
+    match try_rewrite(rule, fold, out) {
+        Ok(length) => Text::written(length),
+        Err(refused) => Text::from(refused),
+    }
 }

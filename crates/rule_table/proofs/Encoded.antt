@@ -27,7 +27,7 @@ use Rattle.shift_and_wide.proofs.Wides.{same}
 use Rattle.shift_and_wide.proofs.Masks.{number-words, words-number, words_fit, number-none}
 use Rattle.shift_and_wide.proofs.Instances.{Fits, encodes_low}
 use Rattle.rule_parser.specs.declared.Prepared.{Prepared}
-use Rattle.rule_parser.specs.Preparing.{answer_of, prepared_by, prepared, Prepares}
+use Rattle.rule_parser.specs.Preparing.{answer_of, PreparedRule}
 use Rattle.rule_table.specs.Tables.{plane_of, table_of, row_of, Counted, PlaneFillable, PlaneFilled, Fillable, Filled, mirror_from, mirror}
 use Rattle.rule_table.proofs.FillLaws.{Every, every_append, every_reverse, every_mask, kind_every, zero_word, long_entries, entry_at, Accepts, accepts}
 
@@ -243,26 +243,15 @@ pub encodes_lowest : (table : List ℕ) (m : WideMasks) (qs : List Position) →
     → Encodes (word_automaton (take 256 table) m.repeats.w0 m.optional.w0 m.top) qs
 encodes_lowest table m qs e l = encodes_low (wide_automaton_of table m) qs e.fit e.numbers l
 
--- what a refusal was of
-pub is-refused : (flag : ℕ) (rule : List ℕ) (p : Prepared) → Prepares flag rule p → (p.number ≡ 0 → ⊥) → parse (fold_flag flag) rule ≡ refused p.number p.place
-unfolding prepared
-is-refused flag rule p hp z = go (parse (fold_flag flag) rule) hp.is
-  where
-    go : (x : Parsed) → p ≡ prepared_by (fold_flag flag) x → x ≡ refused p.number p.place
-    go (refused n q) e = rw e
-    go (accepted es) e = absurd (z (ap (λ (y : Prepared). y.number) e))
-
-module _ (flag : ℕ) (rule : List ℕ) (p : Prepared) (hp : Prepares flag rule p) (z : p.number ≡ 0) where
+module _ (flag : ℕ) (rule : List ℕ) (p : Prepared) (hp : PreparedRule flag rule p) where
   abbrev ps : List Position
   ps = rule_positions (fold_flag flag) rule
 
   pub is-accepted : Accepts (fold_flag flag) rule
-  unfolding prepared
-  is-accepted = accepts (fold_flag flag) rule (sym (ap (λ (y : Prepared). y.number) hp.is) ∙ z)
+  is-accepted = accepts (fold_flag flag) rule hp.elements hp.parses
 
   pub is-answer : p ≡ answer_of ps
-  unfolding prepared
-  is-answer = hp.is ∙ ap (prepared_by (fold_flag flag)) is-accepted.parses ∙ ap (λ (x : Parsed). answer_of (positions_by (fold_flag flag) x)) (sym is-accepted.parses)
+  is-answer = hp.is ∙ ap (λ (x : Parsed). answer_of (positions_by (fold_flag flag) x)) (sym hp.parses)
 
   pub positions_are : p.positions ≡ length ps
   positions_are = ap (λ (y : Prepared). y.positions) is-answer
@@ -275,7 +264,7 @@ module _ (flag : ℕ) (rule : List ℕ) (p : Prepared) (hp : Prepares flag rule 
 
   -- what `fill` and `fill_plane` ask
   counted : Counted flag rule p.positions
-  counted = record { fine = sym (ap (λ (y : Prepared). y.number) hp.is) ∙ z; count = ap (λ (y : Prepared). y.positions) hp.is; few = hp.few }
+  counted = record { elements = hp.elements; parses = hp.parses; count = ap (λ (y : Prepared). y.positions) hp.is; few = hp.few }
 
   pub may_fill : (table : List ℕ) → length table ≡ 1024 → Fillable flag rule p.positions table
   may_fill table l = record { rule-counted = counted; long = l }

@@ -2,7 +2,6 @@
 use mathlib.Core.Path.{◌≡◌, refl, sym, ap, ap₂, ◌∙◌}
 use mathlib.Core.List.{List, [], ◌∷◌, ◌++◌, append_assoc, reverse, reverse-cons, reverse-append}
 use mathlib.Core.Bool.{Bool, true, false, cond, ◌&&◌}
-use mathlib.Core.Logic.{inl, inr}
 use Prim.Native.Nat.{ℕ, zero, suc, ◌+◌, ◌-◌, ◌*◌, ◌%◌, ◌^◌, ◌≤◌, ◌<◌}
 use native.Mathlib.Omega.{arith}
 use native.Mathlib.Nat.{add-zero, zero-add, mul_assoc, add-mul, zero-mul, zero-div, div-eq_of_lt}
@@ -16,20 +15,18 @@ use borrow.Rule.Slice.PartMut.{mid_of, put_mid, mid_len, same_len_mid}
 use Rattle.model.specs.Occurrence.{Position, one_if}
 use Rattle.model.specs.RuleText as Model
 use Rattle.model.specs.RuleText.{fold_flag, rule_limit, position_limit, byte, any, class, gap, once, optional, position, positions, kind_positions, kind_set, is_byte}
-use Rattle.model.specs.NumberedAnswers.{Parsed, refused, accepted, elements_from, parse, positions_by, rule_positions}
+use Rattle.model.specs.NumberedAnswers.{Parsed, accepted, elements_from, parse, positions_by, rule_positions}
 use Rattle.model.proofs.Accepted.{parsed_ok, stored-accepted}
-use Rattle.model.proofs.Refusals.{rule-refusal}
 use Rattle.shift_and.specs.Masks.{mask_from, mask, admits_mask}
 use Rattle.shift_and.proofs.MaskLaws.{mask_append, mask_fits}
 use Rattle.shift_and_wide.specs.Wides.{word_of, ones_from}
 use Rattle.shift_and_wide.proofs.Masks.{word_or}
 use Rattle.byte_set.proofs.SetLaws.{class-member}
+use Rattle.answers.specs.declared.Refusal.{Refusal}
 use Rattle.rule_element.specs.declared.Kind.{Kind}
 use Rattle.rule_element.specs.declared.Element.{Element}
-use Rattle.rule_element.specs.declared.ElementAnswer.TheVariants.{Got, Refused}
-use Rattle.rule_element.specs.declared.ElementResult.{ElementResult}
-use Rattle.rule_element.specs.Reading.{kind_of, set_of, size_of, KindFits, ElementMoves, ReadsElement}
-use Rattle.rule_parser.specs.Preparing.{prepared_by, prepared}
+use Rattle.std.specs.Prelude.{Ok, Err}
+use Rattle.rule_element.specs.Reading.{kind_of, size_of, KindFits, ElementMoves, ReadsElement}
 use Rattle.rule_table.specs.Tables.{entries_from, plane_of, table_of, row_of, Cleared, gained, admits_by, SlotsFit, slot_bits, Placed, Counted, PlaneFillable, PlaneFilled, Fillable, Filled}
 use Rattle.rule_parser.proofs.ElementMasks.{kind-length}
 use Rattle.rule_element.proofs.RuleReading.{Found, moved, element-found, elements-over, elements_never, elements-after}
@@ -142,10 +139,10 @@ word-gained j false bits x = refl
 
 -- ---- what an element admits
 
-pub admits_is : (fold : Bool) (used : ℕ) (d : Model.Kind) (c : ℕ) → c < 256 → admits_by fold (kind_of used d) (set_of fold d) c ≡ (is_byte c && kind_set fold d c)
-admits_is fold used d c h = go d ∙ sym (ap (λ (b : Bool). b && kind_set fold d c) (lt-ltb c 256 h))
+pub admits_is : (fold : Bool) (d : Model.Kind) (c : ℕ) → c < 256 → admits_by fold (kind_of fold d) c ≡ (is_byte c && kind_set fold d c)
+admits_is fold d c h = go d ∙ sym (ap (λ (b : Bool). b && kind_set fold d c) (lt-ltb c 256 h))
   where
-    go : (d : Model.Kind) → admits_by fold (kind_of used d) (set_of fold d) c ≡ kind_set fold d c
+    go : (d : Model.Kind) → admits_by fold (kind_of fold d) c ≡ kind_set fold d c
     go (byte b) = refl
     go any = refl
     go (class t rs) = class-member fold t rs c h
@@ -188,32 +185,24 @@ pub record Filling (fold : Bool) (s : List ℕ) (all : List Position) (reversed 
   pub long : length plane ≡ 256
   pub each : (c : ℕ) → c < 256 → PlaneEntry word reversed (λ p. p.set c) used (positions fold left) all (get_or plane c 0)
 
--- a rule whose number is 0 is accepted
+-- an accepted rule, as it is read from its first element on
 pub record Accepts (fold : Bool) (s : List ℕ) : Type 0 where
   pub elements : List Model.Element
   pub parses : parse fold s ≡ accepted elements
   pub reads : elements_from position_limit fold 0 0 0 s ≡ accepted elements
 
-pub accepts : (fold : Bool) (s : List ℕ) → (prepared_by fold (parse fold s)).number ≡ 0 → Accepts fold s
-accepts fold s z = go (parse fold s) refl
-  where
-    go : (x : Parsed) → parse fold s ≡ x → Accepts fold s
-    go (accepted es) q = record { elements = es; parses = q; reads = (parsed_ok rule_limit position_limit fold s es (stored-accepted fold s es q).0).reads }
-    go (refused n p) q =
-        let e : n ≡ 0 = sym (ap (λ (y : Parsed). (prepared_by fold y).number) q) ∙ z in
-        elim (rule-refusal fold s n p q) [ inl r ↦ let l = r.0 in absurd (omega arith) | inr r ↦ absurd (omega arith) ]
+pub accepts : (fold : Bool) (s : List ℕ) (es : List Model.Element) → parse fold s ≡ accepted es → Accepts fold s
+accepts fold s es e = record { elements = es; parses = e; reads = (parsed_ok rule_limit position_limit fold s es (stored-accepted fold s es e).0).reads }
 
 module _ (flag : ℕ) (s : List ℕ) (total : ℕ) (h : Counted flag s total) where
   pub counted-rule : Accepts (fold_flag flag) s
-  unfolding prepared
-  counted-rule = accepts (fold_flag flag) s h.fine
+  counted-rule = accepts (fold_flag flag) s h.elements h.parses
 
   pub counted-positions : rule_positions (fold_flag flag) s ≡ positions (fold_flag flag) counted-rule.elements
   counted-positions = ap (positions_by (fold_flag flag)) counted-rule.parses
 
   pub counted-length : total ≡ length (rule_positions (fold_flag flag) s)
-  unfolding prepared
-  counted-length = h.count ∙ ap (λ (y : Parsed). (prepared_by (fold_flag flag) y).positions) counted-rule.parses ∙ ap length (sym counted-positions)
+  counted-length = h.count ∙ ap (λ (x : Parsed). length (positions_by (fold_flag flag) x)) (sym h.parses)
 
 pub zero_word : (j : ℕ) → word_of j 0 ≡ 0
 zero_word j = ap (λ (v : ℕ). v % 2 ^ 64) (zero-div (2 ^ (j * 64)))
@@ -253,27 +242,27 @@ module _ (f : Bool) (s : List ℕ) (all : List Position) (reversed : Bool) (tota
           let e = g.each i k in
           e.is_word ∙ ap (word_of word) (last (λ p. p.set i) reversed e.whole (rw none at e.entry) ∙ ap (λ (ps : List Position). admits_mask (row_of reversed ps) i) ea)
 
-  module _ (h : at < length s) (r : ElementResult) (rc : ReadsElement f used s at r) where
-    pub fill_never : (k : ℕ) → r.answer ≡ Refused k → (flag : ℕ) → PlaneFilled flag s reversed plane word
-    fill_never k e flag = elements_never f s at used g.left g.rest h r rc k e
+  module _ (h : at < length s) where
+    pub fill_never : {A : Type 0} (x : Refusal) → ReadsElement f used s at (Err x) → A
+    fill_never x r = elements_never f s at used g.left g.rest h x r
 
-    module _ (element : Element) (to : ℕ) (e : r.answer ≡ Got element to) where
-      abbrev found : Found f used s at h r rc element to e
-      found = element-found f used s at h r rc element to e
+    module _ (element : Element) (to : ℕ) (rc : ReadsElement f used s at (Ok (element, to))) where
+      abbrev found : Found f used s at h element to rc
+      found = element-found f used s at h element to rc
 
       moves : ElementMoves used s at element to
-      moves = moved f used s at h r rc element to e
+      moves = moved f used s at h element to rc
 
       after : (fs : List Model.Element) × (elements_from position_limit f 0 to (used + size_of element.kind) (drop to s) ≡ accepted fs) × (record { kind = found.kind; often = found.often } ∷ fs ≡ g.left)
-      after = elements-after f s at used g.left g.rest h r rc element to e
+      after = elements-after f s at used g.left g.rest h element to rc
 
       pub fill_ahead : (at < to) × (to ≤ length s)
       fill_ahead = (omega (arith, moves.ahead), moves.inside)
 
-      same_kind : element.kind ≡ kind_of used found.kind
+      same_kind : element.kind ≡ kind_of f found.kind
       same_kind = ap (λ (y : Element). y.kind) found.is-element
 
-      fits : KindFits (kind_of used found.kind)
+      fits : KindFits (kind_of f found.kind)
       fits = rw same_kind at moves.fits
 
       kp : List Position
@@ -284,7 +273,7 @@ module _ (f : Bool) (s : List ℕ) (all : List Position) (reversed : Bool) (tota
 
       long_kp : length kp ≡ n
       unfolding kp
-      long_kp = kind-length f used found.kind found.often fits ∙ ap size_of (sym same_kind)
+      long_kp = kind-length f found.kind found.often fits ∙ ap size_of (sym same_kind)
 
       is-left : positions f g.left ≡ kp ++ positions f after.0
       unfolding kp
@@ -302,7 +291,7 @@ module _ (f : Bool) (s : List ℕ) (all : List Position) (reversed : Bool) (tota
       next false c x e = entry-on (λ p. p.set c) (is_byte c && kind_set f found.kind c) kp (positions f after.0) all (kind_every f found.kind found.often c) used n x long_kp e
       next true c x e = entry-back (λ p. p.set c) (is_byte c && kind_set f found.kind c) kp (positions f after.0) all (kind_every f found.kind found.often c) used n x long_kp total counted e
 
-      pub fill_turn : (m : ℕ) (plane' : List ℕ) → Placed f element.kind r.set used total reversed word plane m plane' → Filling f s all reversed total word plane' to (used + m)
+      pub fill_turn : (m : ℕ) (plane' : List ℕ) → Placed f element.kind used total reversed word plane m plane' → Filling f s all reversed total word plane' to (used + m)
       fill_turn m plane' d = rw d.size (record {
         left = after.0;
         rest = after.1;
@@ -314,7 +303,7 @@ module _ (f : Bool) (s : List ℕ) (all : List Position) (reversed : Bool) (tota
             let e = g.each c l in
             let bits = slot_bits n used total reversed in
             let has = is_byte c && kind_set f found.kind c in
-            let b : admits_by f element.kind r.set c ≡ has = ap₂ (λ (k : Kind) (w : List ℕ). admits_by f k w c) same_kind found.is_set ∙ admits_is f used found.kind c l in
+            let b : admits_by f element.kind c ≡ has = ap (λ (k : Kind). admits_by f k c) same_kind ∙ admits_is f found.kind c l in
             record {
               whole = gained has bits e.whole;
               is_word = d.gains.each c l ∙ ap₂ (λ (y : Bool) (x : ℕ). gained y (word_of word bits) x) b e.is_word ∙ sym (word-gained word has bits e.whole);
@@ -391,16 +380,17 @@ module _ (flag : ℕ) (s : List ℕ) (reversed : Bool) where
       pub plane_fillable : (total : ℕ) (t₀ : List ℕ) → Fillable flag s total t₀ → PlaneFillable flag s total (mid_of at (at + 256 - at) table) word
       plane_fillable total t₀ k = record { rule-counted = k.rule-counted; long = part_length; one = h }
 
-      pub planes_turn : (plane : List ℕ) → PlaneFilled flag s reversed plane word → FillingPlanes flag s reversed (put_mid at (at + 256 - at) table plane) (word + 1) (at + 256)
+      pub planes_turn : (plane : List ℕ) → PlaneFilled flag s reversed plane word → (to : ℕ) → to ≡ at + 256 → FillingPlanes flag s reversed (put_mid at (at + 256 - at) table plane) (word + 1) to
       unfolding planes_below
-      planes_turn plane k =
+      planes_turn plane k to e =
           let row = row_of reversed (rule_positions (fold_flag flag) s) in
           record {
             within = omega arith;
             place = omega (arith, g.place);
             long = same_len_mid at (at + 256 - at) table plane (k.long ∙ sym part_length) ∙ g.long;
             filled =
-                plane_put table at plane plane_room k.long
+                ap (λ (j : ℕ). take j (put_mid at (at + 256 - at) table plane)) e
+                ∙ plane_put table at plane plane_room k.long
                 ∙ ap₂ (λ (x y : List ℕ). x ++ y) g.filled k.is
                 ∙ ap (λ (j : ℕ). planes_below j row) (sym (add-one word));
           }

@@ -2,15 +2,14 @@
 use Rattle.std.specs.Prelude.{◌≡◌, Bool, true, cond, ◌&&◌, ◌||◌, List, [], ◌∷◌, ◌++◌, reverse, ℕ, zero, suc, ◌+◌, ◌-◌, ◌*◌, ◌/◌, ◌%◌, ◌≤◌, ◌<◌, length, get_or, eqb}
 use Rattle.std.specs.Int.Bits.{bit_or}
 use Rattle.model.specs.Occurrence.{Position}
-use Rattle.model.specs.RuleText.{fold_flag, position_limit, other_case}
-use Rattle.model.specs.NumberedAnswers.{rule_positions}
+use Rattle.model.specs.RuleText.{Element, fold_flag, position_limit, other_case, positions}
+use Rattle.model.specs.NumberedAnswers.{accepted, parse, rule_positions}
 use Rattle.shift_and.specs.Masks.{admits_mask}
 use Rattle.shift_and_wide.specs.Wides.{word_of, ones_from}
 use Rattle.byte_set.specs.Sets.{member}
 use Rattle.rule_element.specs.declared.Kind.{Kind}
 use Rattle.rule_element.specs.declared.Kind.TheVariants.{Byte, Any, Class, Gap}
 use Rattle.rule_element.specs.Reading.{size_of}
-use Rattle.rule_parser.specs.Preparing.{prepared}
 
 -- ---- the table of a list of positions
 
@@ -55,12 +54,12 @@ in_set w c = member w c
 abbrev pub has_byte : (fold : Bool) (b : ℕ) → ℕ → Bool
 has_byte fold b c = eqb c b || (fold && eqb (other_case c) b)
 
--- the bytes that an element admits, by its kind and the set beside it
-abbrev pub admits_by : (fold : Bool) → Kind → List ℕ → ℕ → Bool
-admits_by fold (Byte b) w = has_byte fold b
-admits_by fold Any w = always
-admits_by fold (Class n) w = in_set w
-admits_by fold (Gap a b) w = always
+-- the bytes that an element admits, by its kind
+abbrev pub admits_by : (fold : Bool) → Kind → ℕ → Bool
+admits_by fold (Byte b) = has_byte fold b
+admits_by fold Any = always
+admits_by fold (Class set) = in_set set.words
+admits_by fold (Gap a b) = always
 
 -- n positions after `used` of `total`, in a word
 pub record SlotsFit (n used total word : ℕ) : Type 0 where
@@ -72,16 +71,17 @@ abbrev pub slot_bits : (n used total : ℕ) (reversed : Bool) → ℕ
 slot_bits n used total reversed = cond reversed (ones_from n (total - used - n + 1)) (ones_from n (used + 1))
 
 -- `place`: a word of the positions of one element
-pub record Placed (fold : Bool) (kind : Kind) (w : List ℕ) (used total : ℕ) (reversed : Bool) (word : ℕ) (t : List ℕ) (r : ℕ) (t' : List ℕ) : Type 0 where
+pub record Placed (fold : Bool) (kind : Kind) (used total : ℕ) (reversed : Bool) (word : ℕ) (t : List ℕ) (r : ℕ) (t' : List ℕ) : Type 0 where
   pub size : r ≡ size_of kind
-  pub gains : Gains (admits_by fold kind w) (word_of word (slot_bits (size_of kind) used total reversed)) t t'
+  pub gains : Gains (admits_by fold kind) (word_of word (slot_bits (size_of kind) used total reversed)) t t'
 
 -- ---- what `fill` asks and ensures
 
 -- an accepted rule with the count of positions that `prepare` gave
 pub record Counted (flag : ℕ) (rule : List ℕ) (total : ℕ) : Type 0 where
-  pub fine : (prepared flag rule).number ≡ 0
-  pub count : total ≡ (prepared flag rule).positions
+  pub elements : List Element
+  pub parses : parse (fold_flag flag) rule ≡ accepted elements
+  pub count : total ≡ length (positions (fold_flag flag) elements)
   pub few : total ≤ position_limit
 
 -- one plane,

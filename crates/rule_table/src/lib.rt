@@ -7,47 +7,31 @@ ghost use Rattle.std.specs.Prelude.{◌≡◌, ◌≤◌, length};
 ghost use Rattle.model.specs.RuleText.{position_limit};
 ghost use Rattle.rule_element.specs.Reading.{size_of};
 ghost use Rattle.shift_and_wide.specs.Wides.{number, word_of, words_of};
-ghost use Rattle.rule_table.specs.Tables.{Cleared, Gains, always, has_byte, in_set, admits_by, SlotsFit, slot_bits, Placed};
+ghost use Rattle.rule_table.specs.Tables.{Gains, always, has_byte, in_set, admits_by, SlotsFit, slot_bits, Placed};
 ghost use Rattle.rule_table.specs.Tables.{PlaneFillable, PlaneFilled, Fillable, Filled, mirror};
 
-use rule_element::{ElementAnswer, Kind};
+use byte_set::ByteSet;
+use rule_element::Kind;
 use shift_and_wide::Wide;
-
-// Every entry becomes 0.
-fn clear(table: &mut [u64])
-    requires { length table.old ≡ 256 }
-    ensures { Cleared table.new 256 }
-{
-    let mut c = 0;
-    while c < 256 {
-        table[c] = 0;
-        c += 1;
-    }
-}
 
 // Every entry gains the bits.
 fn admit_all(table: &mut [u64], bits: u64)
     requires { length table.old ≡ 256 }
     ensures { Gains always bits table.old table.new }
 {
-    let mut c = 0;
-    while c < 256 {
-        table[c] = table[c] | bits;
-        c += 1;
+    for entry in table.iter_mut() {
+        *entry |= bits;
     }
 }
 
 // The entries of the bytes in the set gain the bits.
-fn admit_class(table: &mut [u64], set: [u64; 4], bits: u64)
+fn admit_class(table: &mut [u64], set: ByteSet, bits: u64)
     requires { length table.old ≡ 256 }
-    ensures { Gains (in_set set) bits table.old table.new }
+    ensures { Gains (in_set set.words) bits table.old table.new }
 {
-    let mut c = 0;
-    while c < 256 {
-        let i = c;
-        c += 1;
-        if byte_set::has(set, i as u8) {
-            table[i] = table[i] | bits;
+    for (c, entry) in table.iter_mut().enumerate() {
+        if set.contains(c as u8) {
+            *entry |= bits;
         }
     }
 }
@@ -69,15 +53,14 @@ fn admit_byte(table: &mut [u64], b: u8, fold: bool, bits: u64)
 }
 
 // The entries of the bytes that an element admits gain the bits.
-fn admit_element(table: &mut [u64], kind: Kind, set: [u64; 4], fold: bool, bits: u64)
+fn admit_element(table: &mut [u64], kind: Kind, fold: bool, bits: u64)
     requires { length table.old ≡ 256 }
-    ensures { Gains (admits_by fold kind set) bits table.old table.new }
+    ensures { Gains (admits_by fold kind) bits table.old table.new }
 {
     match kind {
         Kind::Byte(b) => admit_byte(table, b, fold, bits),
-        Kind::Any => admit_all(table, bits),
-        Kind::Class(_) => admit_class(table, set, bits),
-        Kind::Gap(_, _) => admit_all(table, bits),
+        Kind::Class(set) => admit_class(table, set, bits),
+        Kind::Any | Kind::Gap(_, _) => admit_all(table, bits),
     }
 }
 
@@ -97,7 +80,6 @@ fn slots(n: u32, used: u32, total: u32, reversed: bool, word: u32) -> u64
 fn place(
     table: &mut [u64],
     kind: Kind,
-    set: [u64; 4],
     fold: bool,
     used: u32,
     total: u32,
@@ -106,11 +88,11 @@ fn place(
 ) -> u32
     requires table_len { length table.old ≡ 256 }
     requires slots_fit { SlotsFit (size_of kind) used total word }
-    ensures { Placed fold kind set used total reversed word table.old result table.new }
+    ensures { Placed fold kind used total reversed word table.old result table.new }
 {
     let n = rule_element::size(kind);
     let bits = slots(n, used, total, reversed, word);
-    admit_element(table, kind, set, fold, bits);
+    admit_element(table, kind, fold, bits);
     n
 }
 
@@ -119,24 +101,16 @@ fn read_plane(rule: &[u8], fold: u32, total: u32, plane: &mut [u64], reversed: b
     requires { PlaneFillable fold rule.now total plane.old word }
     ensures { PlaneFilled fold rule.now reversed plane.new word }
 {
-    clear(plane);
+    plane.fill(0);
     let f = rule_parser::folds(fold);
     let mut at = 0;
     let mut used = 0u32;
     while at < rule.len() {
-        let e = rule_element::read_element(rule, at, f, used);
-        let set = e.set;
-        let answer = e.answer;
-        match answer {
-            ElementAnswer::Refused(_) => {
-                return;
-            }
-            ElementAnswer::Got(element, next) => {
-                let kind = element.kind;
-                used += place(plane, kind, set, f, used, total, reversed, word);
-                at = next;
-            }
-        }
+        let Ok((element, next)) = rule_element::read_element(rule, at, f, used) else {
+            return;
+        };
+        used += place(plane, element.kind, f, used, total, reversed, word);
+        at = next;
     }
 }
 
@@ -147,7 +121,7 @@ pub fn fill_plane(rule: &[u8], fold: u32, total: u32, plane: &mut [u64], reverse
 {
     let from = word * 64;
     if total < from {
-        clear(plane);
+        plane.fill(0);
         return;
     }
     read_plane(rule, fold, total, plane, reversed, word);
@@ -158,13 +132,9 @@ pub fn fill(rule: &[u8], fold: u32, total: u32, table: &mut [u64], reversed: boo
     requires { Fillable fold rule.now total table.old }
     ensures { Filled fold rule.now reversed table.new }
 {
-    let mut word = 0u32;
-    let mut at = 0;
-    while word < 4 {
-        let end = at + 256;
-        fill_plane(rule, fold, total, &mut table[at..end], reversed, word);
-        at = end;
-        word += 1;
+    for word in 0..4u32 {
+        let at = word as usize * 256;
+        fill_plane(rule, fold, total, &mut table[at..at + 256], reversed, word);
     }
 }
 
@@ -175,11 +145,9 @@ pub fn mirrored(mask: Wide, n: u32) -> Wide
 {
     let mut from = shift_and_wide::halved(mask);
     let mut to = shift_and_wide::no_bits();
-    let mut left = n;
-    while 0 < left {
+    for _ in 0..n {
         to = shift_and_wide::doubled(to, from.w0 % 2);
         from = shift_and_wide::halved(from);
-        left -= 1;
     }
     shift_and_wide::doubled(to, 0)
 }

@@ -18,7 +18,7 @@ fn feed_accepted(scan: &mut [u64], piece: &[u8], ends: &mut [u32]) -> Answer
     let k = f.held;
     let taken = raw + piece.len() as u64;
     scan_value::put(scan, u.d, 0, taken, u.at as u64, k);
-    answers::counted(u.count as u32, 0)
+    Answer::counted(u.count as u32, 0)
 }
 
 // The work of an accepted finish.
@@ -30,27 +30,25 @@ fn finish_accepted(scan: &mut [u64], ends: &mut [u32]) -> Answer
     let raw = scan_value::raw_of(scan);
     let none = piece_decoder::held::nothing_held();
     scan_value::put(scan, u.d, 1, raw, u.at as u64, none);
-    answers::counted(u.count as u32, 0)
+    Answer::counted(u.count as u32, 0)
 }
 
 // Feeds a piece to the scan.
 pub fn feed(scan: &mut [u64], piece: &[u8], ends: &mut [u32]) -> Answer
     ensures { FeedIs scan.old piece.now ends.old result scan.new ends.new }
 {
-    let number = scan_value::refused(scan, piece.len(), ends.len());
-    if number != 0 {
-        return answers::refused(number, 0);
+    match scan_value::check_call(scan, piece.len(), ends.len()) {
+        Ok(()) => feed_accepted(scan, piece, ends),
+        Err(refusal) => Answer::from(refusal.at(0)),
     }
-    feed_accepted(scan, piece, ends)
 }
 
 // Finishes the scan.
 pub fn finish(scan: &mut [u64], ends: &mut [u32]) -> Answer
     ensures { FinishIs scan.old ends.old result scan.new ends.new }
 {
-    let number = scan_value::refused(scan, 0, ends.len());
-    if number != 0 {
-        return answers::refused(number, 0);
+    match scan_value::check_call(scan, 0, ends.len()) {
+        Ok(()) => finish_accepted(scan, ends),
+        Err(refusal) => Answer::from(refusal.at(0)),
     }
-    finish_accepted(scan, ends)
 }

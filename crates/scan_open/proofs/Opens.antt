@@ -8,22 +8,20 @@ use lib.ListN.{length, take, drop, length-append, length-drop}
 use lib.Seq.{take_at, length-take-le}
 use borrow.Rule.Slice.PartMut.{put_mid}
 use borrow.Author.Tests.{eq-eqb, ne_eqb}
-use Rattle.model.specs.RefusalNumbers.{impossible}
 use Rattle.model.specs.Occurrence.{Position}
 use Rattle.model.specs.RuleText.{fold_flag, positions}
 use Rattle.model.specs.NumberedAnswers.{Parsed, positions_by, rule_positions}
-use Rattle.model.specs.Codes.{smudged}
+use Rattle.model.specs.Codes.{codes_of, fitting, smudged}
 use Rattle.model.proofs.LentLists.{put_rest}
-use Rattle.answers.specs.declared.Opened.{Opened}
-use Rattle.answers.specs.Answers.{refusing_rule, accepting_rule}
+use Rattle.answers.specs.declared.Refusal.TheVariants.{Impossible}
+use Rattle.answers.specs.declared.Refused.{Refused}
+use Rattle.answers.specs.Answers.{number_of, refused_at, refusing_rule, accepting_rule}
 use Rattle.shift_and_wide.specs.declared.WideMasks.{WideMasks}
 use Rattle.shift_and_wide.specs.Stepping.{wide_automaton_of, opening_state_w}
 use Rattle.rule_parser.specs.declared.Prepared.{Prepared}
-use Rattle.rule_parser.specs.Preparing.{answer_of}
 use Rattle.rule_table.specs.Tables.{table_of, Fillable}
 use Rattle.rule_table.proofs.Encoded.{table-long, is-answer, may_fill}
-use Rattle.rule_codes.specs.RuleCodes.{PreparesWith}
-use Rattle.rule_codes.proofs.CodedRules.{refused_with, accepted_with}
+use Rattle.rule_codes.specs.RuleCodes.{PreparedWith, RefusedWith}
 use Rattle.code_table.specs.CodeTables.{Fitted}
 use Rattle.code_table.proofs.FittedMasks.{fitting_masks}
 use Rattle.rule_part.specs.RulePart.{table_length, rule_length, entries_of, rule_fields, begun}
@@ -42,14 +40,14 @@ use Rattle.scan_open.specs.Opening.{masks_for, opening_rule, opening_of, OpenIs,
 module _ (flag : ℕ) (rule codes sets : List ℕ) (p : Prepared) (n : ℕ) (s : List ℕ) (q : Openable flag rule codes sets p n s) where
   masks_are : ◌≡◌ {A = WideMasks} (record { repeats = p.repeats; optional = p.optional; top = p.positions }) (masks_for (smudged (fold_flag flag) rule codes sets))
   masks_are =
-      ap (λ (y : Prepared). record { repeats = y.repeats; optional = y.optional; top = y.positions }) (is-answer flag rule p q.prepares q.accepted)
+      ap (λ (y : Prepared). record { repeats = y.repeats; optional = y.optional; top = y.positions }) (is-answer flag rule p q.prepares)
       ∙ sym (fitting_masks codes sets (rule_positions (fold_flag flag) rule))
 
 -- ---- `open_rule`: the table, and then the rest
 
 module _ (flag : ℕ) (rule codes sets : List ℕ) (p : Prepared) (r : List ℕ) (q : Openable flag rule codes sets p rule_length r) where
   pub table-fillable : Fillable flag rule p.positions (take table_length r)
-  table-fillable = may_fill flag rule p q.prepares q.accepted (take table_length r) (length-take-le table_length r (omega (arith, q.long)))
+  table-fillable = may_fill flag rule p q.prepares (take table_length r) (length-take-le table_length r (omega (arith, q.long)))
 
   pub filled_long : (t : List ℕ) → length t ≡ table_length → length (t ++ drop table_length r) ≡ rule_length
   filled_long t l = omega (arith, q.long, length-append t (drop table_length r), length-drop table_length r)
@@ -77,7 +75,7 @@ value-length ps = value-long (opening_rule ps) (plan_fields 0 0 0 []) (opening-l
 
 module _ (flag : ℕ) (rule codes sets : List ℕ) (p : Prepared) (s : List ℕ) (q : Openable flag rule codes sets p scan_length s) where
   pub rule_openable : Openable flag rule codes sets p rule_length (take rule_length s)
-  rule_openable = record { prepares = q.prepares; accepted = q.accepted; fine = q.fine; long = length-take-le rule_length s (omega (arith, q.long)) }
+  rule_openable = record { prepares = q.prepares; fine = q.fine; long = length-take-le rule_length s (omega (arith, q.long)) }
 
   module _ (r : List ℕ) (e : r ≡ opening_rule (smudged (fold_flag flag) rule codes sets)) where
     value-is : length (r ++ drop rule_length s) ≡ scan_length
@@ -102,28 +100,23 @@ module _ (flag : ℕ) (rule codes sets : List ℕ) (p : Prepared) (s : List ℕ)
 
 -- ---- `open`
 
-module _ (flag : ℕ) (rule codes sets s : List ℕ) (p : Prepared) (hp : PreparesWith flag rule codes sets p) where
-  pub open_refused : (p.number ≡ 0 → ⊥) → (r : Opened) → r ≡ refusing_rule p.number p.place → OpenIs flag rule codes sets s r s
-  open_refused z r e = let a = refused_with flag rule codes sets p hp z in record { answers = rw a e; leaves = rw a }
+module _ (flag : ℕ) (rule codes sets s : List ℕ) where
+  pub open_refused : (e : Refused) → RefusedWith flag rule codes sets e → OpenIs flag rule codes sets s (refusing_rule (number_of e.refusal) e.place) s
+  open_refused e r = record { answers = rw r.is; leaves = rw r.is }
 
-  module _ (z : p.number ≡ 0) where
-    pub open_impossible : (length s ≡ scan_length → ⊥) → (r : Opened) → r ≡ refusing_rule impossible 0 → OpenIs flag rule codes sets s r s
-    open_impossible l r e =
-        let a = (accepted_with flag rule codes sets p hp z).parses_with in
-        let b = ne_eqb (length s) scan_length l in
-        record { answers = rw (a, b) e; leaves = rw (a, b) }
+  module _ (p : Prepared) (hp : PreparedWith flag rule codes sets p) where
+    pub open_impossible : (length s ≡ scan_length → ⊥) → (e : Refused) → e ≡ refused_at Impossible 0 → OpenIs flag rule codes sets s (refusing_rule (number_of e.refusal) e.place) s
+    open_impossible l e ee = let b = ne_eqb (length s) scan_length l in rw ee (record { answers = rw (hp.parses, b); leaves = rw (hp.parses, b) })
 
     module _ (long : length s ≡ scan_length) where
       pub openable : Openable flag rule codes sets p scan_length s
-      openable = record { prepares = hp.rule-is z; accepted = z; fine = hp.codes_fine z; long = long }
+      openable = record { prepares = hp.rule-is; fine = hp.codes_fine; long = long }
 
-      pub open_done : (s' : List ℕ) → s' ≡ opening_of (smudged (fold_flag flag) rule codes sets) → (r : Opened) → r ≡ accepting_rule p.positions p.shortest → OpenIs flag rule codes sets s r s'
-      open_done s' e r f =
-          let a = accepted_with flag rule codes sets p hp z in
-          let es = positions (fold_flag flag) a.elements in
-          let w : p ≡ answer_of es = is-answer flag rule p (hp.rule-is z) z ∙ ap (λ (x : Parsed). answer_of (positions_by (fold_flag flag) x)) a.parses in
+      pub open_done : (s' : List ℕ) → s' ≡ opening_of (smudged (fold_flag flag) rule codes sets) → OpenIs flag rule codes sets s (accepting_rule p.positions p.shortest) s'
+      open_done s' e =
           let l = eq-eqb (length s) scan_length long in
+          let f : s' ≡ opening_of (fitting (codes_of codes sets) (positions (fold_flag flag) hp.rule-is.elements)) = e ∙ ap (λ (x : Parsed). opening_of (fitting (codes_of codes sets) (positions_by (fold_flag flag) x))) hp.rule-is.parses in
           record {
-            answers = rw (a.parses_with, l) (f ∙ ap (λ (y : Prepared). accepting_rule y.positions y.shortest) w);
-            leaves = rw (a.parses_with, l) (e ∙ ap opening_of a.fits_are);
+            answers = rw (hp.parses, l) (ap (λ (y : Prepared). accepting_rule y.positions y.shortest) hp.rule-is.is);
+            leaves = rw (hp.parses, l) f;
           }

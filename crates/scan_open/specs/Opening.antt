@@ -1,18 +1,19 @@
 -- Opening a scan: what it answers and leaves, in every case. Assumes nothing.
-use Rattle.std.specs.Prelude.{◌≡◌, false, cond, List, [], ◌++◌, ℕ, eqb, length}
+use Rattle.std.specs.Prelude.{◌≡◌, false, cond, List, [], ◌++◌, ℕ, eqb, length, Result, MatchResult}
 use Rattle.model.specs.RefusalNumbers.{impossible}
 use Rattle.model.specs.Occurrence.{Position, shortest}
 use Rattle.model.specs.RuleText.{fold_flag, positions}
 use Rattle.model.specs.NumberedAnswers.{Parsed, refused, accepted}
 use Rattle.model.specs.Codes.{codes_of, fitting, codes_wrong, parse_with}
 use Rattle.answers.specs.declared.Opened.{Opened}
-use Rattle.answers.specs.Answers.{refusing_rule, accepting_rule}
+use Rattle.answers.specs.declared.Refused.{Refused}
+use Rattle.answers.specs.Answers.{number_of, refusing_rule, accepting_rule}
 use Rattle.shift_and.specs.Masks.{optional_mask, repeats_mask}
 use Rattle.shift_and_wide.specs.declared.WideMasks.{WideMasks}
 use Rattle.shift_and_wide.specs.Wides.{words_of}
 use Rattle.shift_and_wide.specs.Stepping.{WideAutomaton, wide_automaton_of, opening_state_w}
 use Rattle.rule_parser.specs.declared.Prepared.{Prepared}
-use Rattle.rule_parser.specs.Preparing.{Prepares}
+use Rattle.rule_parser.specs.Preparing.{PreparedRule}
 use Rattle.rule_table.specs.Tables.{table_of}
 use Rattle.rule_part.specs.RulePart.{rule_fields}
 use Rattle.plan_part.specs.PlanPart.{plan_fields}
@@ -51,9 +52,13 @@ pub record OpenIs (flag : ℕ) (rule codes sets s : List ℕ) (r : Opened) (s' :
   pub answers : r ≡ answer_by flag (length s) (parse_with (fold_flag flag) rule codes sets)
   pub leaves : s' ≡ left_by flag codes sets s (parse_with (fold_flag flag) rule codes sets)
 
+-- the same of what is prepared, or of why and where nothing is opened
+abbrev pub OpenTried : (flag : ℕ) (rule codes sets s : List ℕ) (r : Result Prepared Refused) (s' : List ℕ) → Type 0
+OpenTried flag rule codes sets s r s' =
+    MatchResult r (λ p. OpenIs flag rule codes sets s (accepting_rule p.positions p.shortest) s') (λ e. OpenIs flag rule codes sets s (refusing_rule (number_of e.refusal) e.place) s')
+
 -- what the work asks: an accepted rule with accepted codes, and a slice of so many words
 pub record Openable (flag : ℕ) (rule codes sets : List ℕ) (p : Prepared) (n : ℕ) (s : List ℕ) : Type 0 where
-  pub prepares : Prepares flag rule p
-  pub accepted : p.number ≡ 0
+  pub prepares : PreparedRule flag rule p
   pub fine : codes_wrong codes sets ≡ false
   pub long : length s ≡ n

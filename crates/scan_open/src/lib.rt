@@ -6,9 +6,9 @@ ghost use Rattle.model.specs.Codes.{smudged};
 ghost use Rattle.model.specs.RuleText.{fold_flag};
 ghost use Rattle.rule_part.specs.RulePart.{rule_length};
 ghost use Rattle.scan_value.specs.Value.{scan_length};
-ghost use Rattle.scan_open.specs.Opening.{Openable, opening_rule, opening_of, OpenIs};
+ghost use Rattle.scan_open.specs.Opening.{Openable, opening_rule, opening_of, OpenIs, OpenTried};
 
-use answers::Opened;
+use answers::{Opened, Refusal, Refused};
 use rule_parser::Prepared;
 use shift_and_wide::WideMasks;
 
@@ -28,11 +28,10 @@ fn open_rule(rule: &[u8], fold: u32, codes: &[u8], sets: &[u8], p: Prepared, par
     );
     let repeats = p.repeats;
     let optional = p.optional;
-    let top = p.positions as u64;
     let masks = WideMasks {
-        repeats: repeats,
-        optional: optional,
-        top: top,
+        repeats,
+        optional,
+        top: p.positions as u64,
     };
     rule_part::begin(part, masks);
 }
@@ -47,17 +46,30 @@ fn open_accepted(rule: &[u8], fold: u32, codes: &[u8], sets: &[u8], p: Prepared,
     plan_part::put(&mut scan[scan_value::PLAN..], 0, 0, 0, none);
 }
 
-// Opens a scan for a rule with codes.
+// Opens a scan for a rule with codes, and returns what is prepared of the rule.
+fn try_open(
+    rule: &[u8],
+    fold: u32,
+    codes: &[u8],
+    sets: &[u8],
+    scan: &mut [u64],
+) -> Result<Prepared, Refused>
+    ensures { OpenTried fold rule.now codes.now sets.now scan.old result scan.new }
+{
+    let p = rule_codes::prepare(rule, fold, codes, sets)?;
+    if scan.len() != scan_value::LENGTH {
+        return Err(Refusal::Impossible.at(0));
+    }
+    open_accepted(rule, fold, codes, sets, p, scan);
+    Ok(p)
+}
+
+// The same, as a host is answered.
 pub fn open(rule: &[u8], fold: u32, codes: &[u8], sets: &[u8], scan: &mut [u64]) -> Opened
     ensures { OpenIs fold rule.now codes.now sets.now scan.old result scan.new }
 {
-    let p = rule_codes::prepare(rule, fold, codes, sets);
-    if p.number != 0 {
-        return answers::refused_rule(p.number, p.place);
+    match try_open(rule, fold, codes, sets, scan) {
+        Ok(p) => Opened::accepted(p.positions, p.shortest),
+        Err(refused) => Opened::from(refused),
     }
-    if scan.len() != scan_value::LENGTH {
-        return answers::refused_rule(answers::IMPOSSIBLE, 0);
-    }
-    open_accepted(rule, fold, codes, sets, p, scan);
-    answers::accepted_rule(p.positions, p.shortest)
 }

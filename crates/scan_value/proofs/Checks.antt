@@ -8,13 +8,16 @@ use lib.ListN.{length, drop, get_or, length-drop}
 use lib.Seq.{take_all, get_or-take, get_or-drop, length-take-le}
 use borrow.Rule.Slice.PartMut.{mid_of}
 use borrow.Author.Tests.{eq-eqb, ne_eqb}
-use Rattle.model.specs.RefusalNumbers.{impossible}
 use Rattle.piece_decoder.specs.declared.held.Held.{Held}
 use Rattle.shift_and_wide.specs.declared.Wide.{Wide}
 use Rattle.shift_and_wide.proofs.Wides.{same}
+use Rattle.std.specs.Prelude.{Result, MatchResult}
+use Rattle.std.proofs.lemmas.Result.{MatchResult-weaker}
+use Rattle.answers.specs.declared.Refusal.{Refusal}
+use Rattle.answers.specs.declared.Refusal.TheVariants.{Impossible}
 use Rattle.rule_part.specs.RulePart.{repeats_at, optional_at, positions_at, rule_length, state_at, words_at, RulePossibleIs}
-use Rattle.plan_part.specs.PlanPart.{plan_length, raw_at, decoded_at, held_count_at, LoadFine, LoadIs, PlanPossible, PlanPossibleIs, PlanRefusedIs}
-use Rattle.scan_value.specs.Value.{scan_length, rule_of, plan_of, low_masks_in, state_in, raw_in, read_in, decoded_in, held_count_in, possible, Possible, PossibleIs, number_for, RefusedIs}
+use Rattle.plan_part.specs.PlanPart.{plan_length, raw_at, decoded_at, held_count_at, LoadFine, LoadIs, PlanPossible, PlanPossibleIs, PlanAccepts, plan_refusal, PlanLetsIn, PlanTurnsDown}
+use Rattle.scan_value.specs.Value.{scan_length, rule_of, plan_of, low_masks_in, state_in, raw_in, read_in, decoded_in, held_count_in, possible, Possible, PossibleIs, number_for, LetsIn, TurnsDown}
 
 -- ---- the two parts
 
@@ -101,16 +104,23 @@ module _ (s : List ℕ) (q : Possible s) where
   loaded h x = subst (λ (p : List ℕ). LoadIs p h) (plan-lent s q.long) x
 
 module _ (s : List ℕ) (p n : ℕ) (r : Bool) (x : PossibleIs s r) where
-  pub refused-impossible : r ≡ false → RefusedIs s p n impossible
+  pub refused-impossible : r ≡ false → TurnsDown s p n Impossible
   unfolding number_for
-  refused-impossible z = record { is = rw (← x.is, z); fine = λ q. absurd (omega (arith, q)) }
+  refused-impossible z = record { is = rw (← x.is, z) }
 
   module _ (z : r ≡ true) where
     pub may_ask : PlanPossible (lent s)
     may_ask = lent-possible s (x.says z)
 
-    pub refused_by_plan : (k : ℕ) → PlanRefusedIs (lent s) p n k → RefusedIs s p n k
+    by_number : number_for s p n ≡ plan_refusal (lent s) p n
     unfolding number_for
-    refused_by_plan k y =
-        let w = subst (λ (t : List ℕ). PlanRefusedIs t p n k) (plan-lent s (x.says z).long) y in
-        record { is = rw (← x.is, z) w.is; fine = λ q. record { possible = x.says z; accepts = w.accepts q } }
+    by_number = rw (← x.is, z) (ap (λ (t : List ℕ). plan_refusal t p n) (sym (plan-lent s (x.says z).long)))
+
+    lets_in : PlanLetsIn (lent s) p n → LetsIn s p n
+    lets_in y = record { is = by_number ∙ y.is; fine = record { possible = x.says z; accepts = subst (λ (t : List ℕ). PlanAccepts t p n) (plan-lent s (x.says z).long) y.accepts } }
+
+    turns_down : (k : Refusal) → PlanTurnsDown (lent s) p n k → TurnsDown s p n k
+    turns_down k y = record { is = by_number ∙ y.is }
+
+    pub refused_by_plan : {A : Type 0} (k : Result A Refusal) → MatchResult k (λ _. PlanLetsIn (lent s) p n) (PlanTurnsDown (lent s) p n) → MatchResult k (λ _. LetsIn s p n) (TurnsDown s p n)
+    refused_by_plan k y = MatchResult-weaker k y (λ _ a. lets_in a) turns_down

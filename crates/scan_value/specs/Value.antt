@@ -2,6 +2,8 @@
 -- impossible, and when a call on one is refused. Assumes nothing.
 use Rattle.std.specs.Prelude.{◌≡◌, Bool, true, cond, ◌&&◌, List, ◌++◌, ℕ, ◌+◌, ◌-◌, eqb, length, take, drop}
 use Rattle.model.specs.RefusalNumbers.{impossible}
+use Rattle.answers.specs.declared.Refusal.{Refusal}
+use Rattle.answers.specs.Answers.{number_of}
 use Rattle.shift_and_step.specs.declared.Masks.{Masks}
 use Rattle.shift_and_wide.specs.declared.Wide.{Wide}
 use Rattle.shift_and_wide.specs.declared.WideMasks.{WideMasks}
@@ -94,6 +96,10 @@ pub record Fine (s : List ℕ) (p n : ℕ) : Type 0 where
   pub possible : Possible s
   pub accepts : PlanAccepts (plan_of s) p n
 
-pub record RefusedIs (s : List ℕ) (p n r : ℕ) : Type 0 where
-  pub is : r ≡ number_for s p n
-  pub fine : r ≡ 0 → Fine s p n
+-- A call that nothing refuses, or one that is refused, by the model's number.
+pub record LetsIn (s : List ℕ) (p n : ℕ) : Type 0 where
+  pub is : number_for s p n ≡ 0
+  pub fine : Fine s p n
+
+pub record TurnsDown (s : List ℕ) (p n : ℕ) (x : Refusal) : Type 0 where
+  pub is : number_for s p n ≡ number_of x

@@ -2,11 +2,12 @@
 // scan call is refused, and how a value is read and written.
 #![tactic(auto)]
 
-ghost use Rattle.std.specs.Prelude.{◌≡◌, ◌<◌, ◌^◌, length};
+ghost use Rattle.std.specs.Prelude.{◌≡◌, ◌<◌, ◌^◌, length, MatchResult};
 ghost use Rattle.piece_decoder.specs.Held.{held_of};
 ghost use Rattle.plan_part.specs.PlanPart.{LoadIs, HeldFits};
-ghost use Rattle.scan_value.specs.Value.{scan_length, plan_of, low_masks_in, state_in, raw_in, read_in, decoded_in, Possible, PossibleIs, RefusedIs, written};
+ghost use Rattle.scan_value.specs.Value.{scan_length, plan_of, low_masks_in, state_in, raw_in, read_in, decoded_in, Possible, PossibleIs, LetsIn, TurnsDown, written};
 
+use answers::Refusal;
 use piece_decoder::held::Held;
 use shift_and_step::Masks;
 use shift_and_wide::Wide;
@@ -81,15 +82,15 @@ fn possible(scan: &[u64]) -> bool
     false
 }
 
-// The number of the refusal of a call with a piece and a list of these lengths, or 0.
-pub fn refused(scan: &[u64], piece: usize, list: usize) -> u32
+// Whether a call with a piece and a list of these lengths is let in, or why not.
+pub fn check_call(scan: &[u64], piece: usize, list: usize) -> Result<(), Refusal>
     requires { piece < 2 ^ 63 }
-    ensures { RefusedIs scan.now piece list result }
+    ensures { MatchResult result (λ _. LetsIn scan.now piece list) (TurnsDown scan.now piece list) }
 {
     if possible(scan) {
-        return plan_part::refused(&scan[PLAN..], piece, list);
+        return plan_part::check_call(&scan[PLAN..], piece, list);
     }
-    answers::IMPOSSIBLE
+    Err(Refusal::Impossible)
 }
 
 // Writes the state and the plan's part.

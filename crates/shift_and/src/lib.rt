@@ -27,7 +27,7 @@ pub fn flood(d: u64, a: u64, i: u64, f: u64) -> u64
     ensures { result ≡ Step.flood 64 d a i f }
 {
     let g = d | f;
-    let r = std::num::wrapping_sub_u64(g, i);
+    let r = g.wrapping_sub(i);
     d | (a & (!r ^ g))
 }
 
@@ -64,5 +64,5 @@ pub fn accepts(d: u64, top: u64) -> bool
 pub fn shortest(p: u64, a: u64) -> u32
     ensures { result ≡ Step.shortest 64 p a }
 {
-    u64::count_ones(p & !a)
+    (p & !a).count_ones()
 }

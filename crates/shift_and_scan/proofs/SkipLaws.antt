@@ -1,5 +1,5 @@
 -- What may be passed over in the opening state: bytes that do not leave it, and starts that miss a pair. Assumes nothing.
-use Rattle.std.proofs.Common.{◌≡◌, ℕ, ◌+◌, ◌-◌, ◌*◌, ◌%◌, ◌^◌, ◌<◌, ◌≤◌, false, ◌&&◌, eqb, leb, List, length, get_or, sym, refl, ◌∙◌, arith, eqb-true, leb-true}
+use Rattle.std.proofs.Common.{◌≡◌, ℕ, ◌+◌, ◌-◌, ◌*◌, ◌%◌, ◌^◌, ◌<◌, ◌≤◌, false, ◌&&◌, eqb, leb, List, length, get_or, sym, refl, arith, eqb-true, leb-true}
 use lib.Bits.{bit_and, bit_or}
 use borrow.Author.Tests.{not-false, eqb-false}
 use Rattle.model.proofs.Truth.{not_both}
@@ -8,6 +8,7 @@ use Rattle.shift_and.proofs.Unchanged.{move-none}
 use Rattle.byte_search.specs.BlockTests.{NoneBefore, same}
 use Rattle.prefilter_search.specs.Candidates.{in_table, in_range, pair_at}
 use Rattle.prefilter.specs.declared.Prefilter.{Prefilter}
+use Rattle.prefilter.specs.declared.Skip.TheVariants.{Table, Byte, Range}
 use Rattle.prefilter.specs.Soundness.{StartState, AllInRange, PairSound, PrefilterSound}
 use Rattle.shift_and_step.specs.declared.Masks.{Masks}
 use Rattle.shift_and.specs.Automaton.{step_with}
@@ -57,27 +58,20 @@ narrow_one t next text x i end r o g =
 -- ---- by a prefilter
 
 module _ {t : List ℕ} {m : Masks} {p : Prefilter} {d : ℕ} {text : List ℕ} {i : ℕ} (pl : PrefilterSound t m.repeats m.optional m.top p) (at_home : d ≡ p.start) where
+  from_home : {r : ℕ} → StartState m.repeats m.optional m.top p.start p.next → NoneBefore (in_table t p.next text) i (length text) r → Skippable t m d text i r
+  from_home {r} h g = rw at_home (passes t m p.start p.next h text i r g)
+
   -- by the table alone
-  pub by_table : {r : ℕ} → (p.kind ≡ 0 → ⊥) → NoneBefore (in_table t p.next text) i (length text) r → Skippable t m d text i r
-  by_table {r} k g = rw at_home (passes t m p.start p.next (pl.start k) text i r g)
+  pub by_table : {r : ℕ} → p.skip ≡ Table → NoneBefore (in_table t p.next text) i (length text) r → Skippable t m d text i r
+  by_table e g = from_home (pl.skips.starts (λ z. cc)) g
 
   -- at the one byte that meets `next`
-  pub by_one : {r : ℕ} → p.kind ≡ 2 → NoneBefore (same text p.lo) i (length text) r → Skippable t m d text i r
-  by_one {r} k g = by_table (λ z. omega arith) (narrow_one t p.next text p.lo i (length text) r (pl.one k) g)
+  pub by_one : {x r : ℕ} → p.skip ≡ Byte x → NoneBefore (same text x) i (length text) r → Skippable t m d text i r
+  by_one {x} {r} e g = from_home (pl.skips.starts (λ z. cc)) (narrow_one t p.next text x i (length text) r (pl.skips.byte x e) g)
 
   -- or at a range that holds them all
-  pub by_range : {r : ℕ} → p.kind ≡ 3 → NoneBefore (in_range text p.lo p.hi) i (length text) r → Skippable t m d text i r
-  by_range {r} k g = by_table (λ z. omega arith) (narrow t p.next text p.lo p.hi i (length text) r (pl.range k) g)
-
-  -- by a pair
-  pub by_pair : {r : ℕ} → p.kind ≡ 4 → Skippable t m 1 text i r → Skippable t m d text i r
-  by_pair {r} k g =
-      let e : d ≡ 1 = at_home ∙ (pl.pair k).0 in
-      rw e g
-
-pub is_paired : (t : List ℕ) (m : Masks) (p : Prefilter) → PrefilterSound t m.repeats m.optional m.top p → p.kind ≡ 4
-    → PairSound t m.repeats m.optional m.top p.a p.b p.lo p.hi
-is_paired t m p pl k = (pl.pair k).1
+  pub by_range : {lo hi r : ℕ} → p.skip ≡ Range lo hi → NoneBefore (in_range text lo hi) i (length text) r → Skippable t m d text i r
+  by_range {lo} {hi} {r} e g = from_home (pl.skips.starts (λ z. cc)) (narrow t p.next text lo hi i (length text) r (pl.skips.range lo hi e) g)
 
 -- the pair's starts, up to where the text still has its second byte
 pub to-pair : (t : List ℕ) (m : Masks) (a b x y : ℕ) (text : List ℕ) (i r : ℕ) → PairSound t m.repeats m.optional m.top a b x y → i ≤ length text

@@ -9,7 +9,7 @@ ghost use Rattle.shift_and_loop.specs.Loops.{Skippable, Advanced, HasRoom};
 ghost use Rattle.shift_and_step.specs.ClosedStates.{ClosureMasksOf};
 ghost use Rattle.shift_and_scan.specs.Scanning.{Scanned, SegmentEnd};
 
-use prefilter::Prefilter;
+use prefilter::{BytePair, Prefilter, Skip};
 use shift_and_loop::Cursor;
 use shift_and_step::{ClosureMasks, Masks};
 
@@ -22,24 +22,16 @@ pub struct ScanResult {
 
 // The next start that has the pair, if it can still be told. Table and masks are there for the
 // contract alone.
-fn skip_pair(
-    table: &[u64],
-    m: Masks,
-    a: usize,
-    b: usize,
-    x: u8,
-    y: u8,
-    text: &[u8],
-    i: usize,
-) -> usize
-    requires pair_sound { PairSound table.now m.repeats m.optional m.top a b x y }
+fn skip_pair(table: &[u64], m: Masks, pair: BytePair, text: &[u8], i: usize) -> usize
+    requires pair_sound { PairSound table.now m.repeats m.optional m.top pair.a pair.b pair.x pair.y }
     requires i_in_bounds { i ≤ length text.now }
     ensures { Skippable table.now m 1 text.now i result }
 {
-    if text.len() - i < b {
+    if text.len() - i < pair.b {
         return i;
     }
-    prefilter_search::find_pair(text, a, b, x, y, i, text.len() - b)
+    let end = text.len() - pair.b;
+    prefilter_search::find_pair(text, pair.a, pair.b, pair.x, pair.y, i, end)
 }
 
 // In a text of fewer bytes than this, as between two references that stand close, nothing is skipped.
@@ -52,26 +44,19 @@ fn skip(table: &[u64], m: Masks, p: Prefilter, d: u64, text: &[u8], i: usize) ->
     requires i_in_bounds { i ≤ length text.now }
     ensures { Skippable table.now m d text.now i result }
 {
-    let kind = p.kind;
-    if kind == prefilter::NO_SKIP {
-        return i;
-    }
     if text.len() < SHORT {
         return i;
     }
     if d != p.start {
         return i;
     }
-    if kind == prefilter::BY_BYTE {
-        return byte_search::find_byte(text, p.lo, i, text.len());
+    match p.skip {
+        Skip::Nothing => i,
+        Skip::Table => prefilter_search::find_in_table(table, p.next, text, i),
+        Skip::Byte(x) => byte_search::find_byte(text, x, i, text.len()),
+        Skip::Range { lo, hi } => prefilter_search::find_in_range(text, lo, hi, i, text.len()),
+        Skip::Pair(pair) => skip_pair(table, m, pair, text, i),
     }
-    if kind == prefilter::BY_RANGE {
-        return prefilter_search::find_in_range(text, p.lo, p.hi, i, text.len());
-    }
-    if kind == prefilter::BY_PAIR {
-        return skip_pair(table, m, p.a, p.b, p.lo, p.hi, text, i);
-    }
-    prefilter_search::find_in_table(table, p.next, text, i)
 }
 
 // A skip of fewer bytes than this does not pay; one to a single byte, whose search is cheap, does sooner.
@@ -79,30 +64,27 @@ const SKIPS_PAY: usize = 16;
 
 const BYTE_SKIPS_PAY: usize = 4;
 
-fn pays_from(kind: u64) -> usize {
-    if kind == prefilter::BY_BYTE {
-        return BYTE_SKIPS_PAY;
+fn pays_from(skip: Skip) -> usize {
+    match skip {
+        Skip::Byte(_) => BYTE_SKIPS_PAY,
+        _ => SKIPS_PAY,
     }
-    SKIPS_PAY
 }
 
 // Where a loop from j on may stop at the earliest: it goes on for some bytes where the last skip, from i to
 // j, was short, so that a text on which skipping does not pay is stepped through for the most part. Only
 // speed depends on it.
-fn stop_at(kind: u64, i: usize, j: usize, end: usize) -> usize
+fn stop_at(skip: Skip, i: usize, j: usize, end: usize) -> usize
     requires i_le_j { i ≤ j }
     requires j_le_end { j ≤ end }
 {
-    if kind == prefilter::NO_SKIP {
+    if let Skip::Nothing = skip {
         return end;
     }
-    if j - i >= pays_from(kind) {
+    if j - i >= pays_from(skip) {
         return j;
     }
-    if end - j < SKIPS_PAY {
-        return end;
-    }
-    j + SKIPS_PAY
+    j + SKIPS_PAY.min(end - j)
 }
 
 // What a segment of a scan comes to: the place, and how many bytes were looped over and not skipped.
@@ -150,7 +132,7 @@ fn scan_segment(
                 looped: looped,
             };
         }
-        let stop = stop_at(p.kind, i, j, until);
+        let stop = stop_at(p.skip, i, j, until);
         let r = shift_and_fixpoint::run_loop(
             table,
             m,

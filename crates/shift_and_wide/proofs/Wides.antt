@@ -1,11 +1,11 @@
 -- Four words as one number: the step, the opening and the shortest length are those of document 01 at 256 bits, and the top bit is found in its word; and what
 -- the functions on four words need. Assumes nothing.
-use Rattle.std.proofs.Common.{◌≡◌, ℕ, zero, suc, ◌+◌, ◌-◌, ◌*◌, ◌/◌, ◌%◌, ◌^◌, ◌<◌, ◌≤◌, Bool, true, false, not, eqb, List, [], ◌∷◌, get_or, take, drop, sym, refl, ap, ◌∙◌, ap₂, true≢false, lt_of_le_of_lt, suc-add, zero-add, one-add, arith, get_or-drop, get_or-take, shr-shr, eqb-true}
+use Rattle.std.proofs.Common.{◌≡◌, ℕ, zero, suc, ◌+◌, ◌-◌, ◌*◌, ◌/◌, ◌%◌, ◌^◌, ◌<◌, ◌≤◌, Bool, false, not, ◌&&◌, eqb, List, [], ◌∷◌, get_or, take, drop, sym, refl, ap, ◌∙◌, ap₂, lt_of_le_of_lt, suc-add, zero-add, one-add, arith, get_or-drop, get_or-take, shr-shr}
+use Rattle.std.proofs.lemmas.Grind.{common_steps}
 use native.Mathlib.Decide.{dec_lt}
 use lib.Arith.{digits_div, digits_mod}
 use lib.Bits.{bit_and, and_le_l}
 use lib.Count.{ones-le}
-use borrow.Author.Tests.{not-false}
 use Rattle.shift_and.specs.Bit.{bit}
 use Rattle.shift_and.specs.ForwardStep.{top_bit, shortest}
 use Rattle.shift_and.proofs.Digits.{mod_bit}
@@ -15,9 +15,9 @@ use Rattle.shift_and_wide.specs.declared.Wide.{Wide}
 use Rattle.shift_and_wide.specs.declared.WideMasks.{WideMasks}
 use Rattle.shift_and_wide.specs.declared.WideBlocks.{WideBlocks}
 use Rattle.shift_and_wide.specs.ManyWords.{first, above, value, Words, flood_words}
-use Rattle.shift_and_wide.specs.Wides.{words, number, moved, flooded, starts_of, ends_of, stepped, top_bit_of}
+use Rattle.shift_and_wide.specs.Wides.{words, number, no_bits, moved, flooded, starts_of, ends_of, stepped, top_bit_of}
 use Rattle.shift_and_wide.proofs.OverWords.{required_value}
-use Rattle.shift_and_wide.specs.Stepping.{RequiredIs, NoneIs, BlocksAre, step_w, entry_of}
+use Rattle.shift_and_wide.specs.Stepping.{RequiredIs, BlocksAre, step_w, entry_of}
 
 -- the same words
 pub same : (a b c d a' b' c' d' : ℕ) → a ≡ a' → b ≡ b' → c ≡ c' → d ≡ d' → ◌≡◌ {A = Wide} (record { w0 = a; w1 = b; w2 = c; w3 = d }) (record { w0 = a'; w1 = b'; w2 = c'; w3 = d' })
@@ -25,22 +25,18 @@ same a b c d a' b' c' d' e f g h = rw (e, f, g, h)
 
 -- ---- none at all
 
-pub some_there : (q : Wide) → NoneIs q false
-some_there q = record { says = λ e. absurd (true≢false (sym e)) }
-
-pub none_there : (q : Wide) → q.w0 ≡ 0 → q.w1 ≡ 0 → q.w2 ≡ 0 → NoneIs q (eqb q.w3 0)
-none_there q e₀ e₁ e₂ = record { says = λ e. all e }
-  where
-    all : eqb q.w3 0 ≡ true → q ≡ record { w0 = 0; w1 = 0; w2 = 0; w3 = 0 }
-    all e = same q.w0 q.w1 q.w2 q.w3 0 0 0 0 e₀ e₁ e₂ (eqb-true q.w3 0 e)
-
 flood-free : (y q i f : Wide) → q ≡ record { w0 = 0; w1 = 0; w2 = 0; w3 = 0 } → flooded y q i f ≡ y
 unfolding flooded flood_words
 flood-free y q i f e =
     rw e (same _ _ _ _ y.w0 y.w1 y.w2 y.w3 (flood-none 64 y.w0 _ _) (flood-none 64 y.w1 _ _) (flood-none 64 y.w2 _ _) (flood-none 64 y.w3 _ _))
 
-pub blocks_are : (q i f : Wide) (r : Bool) → i ≡ starts_of q → f ≡ ends_of q → NoneIs q r → BlocksAre q (record { starts = i; ends = f; some = not r })
-blocks_are q i f r ei ef h = record { starts = ei; ends = ef; none = λ e. h.says (not-false r e) }
+-- whether there is any is told by comparing them with none
+pub blocks_are : (q z i f : Wide) (r : Bool) → i ≡ starts_of q → f ≡ ends_of q → z ≡ no_bits → r ≡ not (eqb q.w0 z.w0 && (eqb q.w1 z.w1 && (eqb q.w2 z.w2 && eqb q.w3 z.w3)))
+    → BlocksAre q (record { starts = i; ends = f; some = r })
+blocks_are q z i f r ei ef ez er = record { starts = ei; ends = ef; none = λ e. none e }
+  where
+    none : r ≡ false → q ≡ record { w0 = 0; w1 = 0; w2 = 0; w3 = 0 }
+    none e = grind (arith, common_steps, same q.w0 q.w1 q.w2 q.w3 0 0 0 0)
 
 pub step_free : (d b : Wide) (k : ℕ) (m : WideMasks) (x : WideBlocks) (y : Wide) → BlocksAre m.optional x → x.some ≡ false → y ≡ moved d b m.repeats k → y ≡ step_w m k d b
 unfolding stepped

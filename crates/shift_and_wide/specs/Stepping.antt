@@ -1,5 +1,5 @@
 -- The forward step over some decoded bytes, in four words: the state after them, and the ends among them, at any table and masks. Assumes nothing.
-use Rattle.std.specs.Prelude.{◌≡◌, ℕ, ◌+◌, ◌<◌, ◌≤◌, Bool, true, false, List, [], ◌∷◌, length, take, drop, slice_index}
+use Rattle.std.specs.Prelude.{◌≡◌, ℕ, ◌+◌, ◌<◌, ◌≤◌, Bool, false, List, [], ◌∷◌, length, take, drop, slice_index}
 use Rattle.model.specs.Occurrence.{cons_if}
 use Rattle.shift_and.specs.ForwardStep.{shortest}
 use Rattle.shift_and.specs.Automaton.{Automaton}
@@ -11,9 +11,6 @@ use Rattle.shift_and_wide.specs.Wides.{number, stepped, opening_of, starts_of, e
 pub record RequiredIs (p q r : ℕ) : Type 0 where
   pub is : r ≡ shortest 64 p q
   pub few : r ≤ 64
-
-pub record NoneIs (q : Wide) (r : Bool) : Type 0 where
-  pub says : r ≡ true → q ≡ record { w0 = 0; w1 = 0; w2 = 0; w3 = 0 }
 
 pub record BlocksAre (q : Wide) (x : WideBlocks) : Type 0 where
   pub starts : x.starts ≡ starts_of q

@@ -7,9 +7,9 @@ ghost use Rattle.std.specs.Prelude.{◌≡◌, ◌+◌, ◌-◌, ◌*◌, ◌/�
 ghost use Rattle.shift_and.specs.ForwardStep as Step;
 ghost use Rattle.shift_and_wide.specs.ManyWords.{move_word, carry, borrows, half, double_of};
 ghost use Rattle.shift_and_wide.specs.Wides.{moved, flooded, starts_of, ends_of, opening_of, number, word_of, no_bits, ones_from, laid_on, top_bit_of, Passes};
-ghost use Rattle.shift_and_wide.specs.Stepping.{RequiredIs, NoneIs, BlocksAre, step_w, entry_of};
+ghost use Rattle.shift_and_wide.specs.Stepping.{RequiredIs, BlocksAre, step_w, entry_of};
 
-#[derive(Clone, Copy)]
+#[derive(Clone, Copy, PartialEq, Eq)]
 pub struct Wide {
     pub w0: u64,
     pub w1: u64,
@@ -167,31 +167,15 @@ pub struct WideBlocks {
     pub some: bool,
 }
 
-fn is_none(q: Wide) -> bool
-    ensures { NoneIs q result }
-{
-    if q.w0 != 0 {
-        return false;
-    }
-    if q.w1 != 0 {
-        return false;
-    }
-    if q.w2 != 0 {
-        return false;
-    }
-    q.w3 == 0
-}
-
 pub fn blocks_of(q: Wide) -> WideBlocks
     ensures { BlocksAre q result }
 {
     let starts = block_starts(q);
     let ends = block_ends(q);
-    let none = is_none(q);
     WideBlocks {
-        starts: starts,
-        ends: ends,
-        some: !none,
+        starts,
+        ends,
+        some: q != no_bits(),
     }
 }
 

@@ -1,22 +1,23 @@
 -- The window search of a whole decoded text: what it answers and leaves, in every case. Assumes nothing.
-use Rattle.std.specs.Prelude.{◌≡◌, cond, List, ℕ, ◌≤◌, ◌<◌, ◌^◌, T, eqb, length}
+use Rattle.std.specs.Prelude.{◌≡◌, cond, List, ℕ, ◌≤◌, ◌<◌, ◌^◌, T, eqb, length, Result, MatchResult}
 use Rattle.model.specs.Occurrence.{all, starts}
 use Rattle.model.specs.RuleText.{fold_flag, is_byte, positions}
 use Rattle.model.specs.NumberedAnswers.{text_limit, Parsed, refused, accepted, whole_refusal, overwrite}
 use Rattle.model.specs.Codes.{codes_of, fitting, smudged, parse_with}
 use Rattle.model.specs.WindowSearch.{windows}
 use Rattle.answers.specs.declared.Answer.{Answer}
-use Rattle.answers.specs.Answers.{refusing, counting}
+use Rattle.answers.specs.declared.Refusal.{Refusal}
+use Rattle.answers.specs.declared.Refused.{Refused}
+use Rattle.answers.specs.Answers.{number_of, refusing, counting}
 use Rattle.rule_parser.specs.declared.Prepared.{Prepared}
-use Rattle.rule_codes.specs.RuleCodes.{PreparesWith}
+use Rattle.rule_codes.specs.RuleCodes.{PreparedWith}
 use Rattle.rule_table.specs.Tables.{mirror}
 use Rattle.shift_and.specs.Automaton.{word_bits}
 use Rattle.shift_and_step.specs.declared.Masks.{Masks}
 use Rattle.shift_and_wide.specs.declared.WideMasks.{WideMasks}
 use Rattle.shift_and_wide.specs.Wides.{number, words_of}
-use Rattle.window_search.specs.declared.Rule.{Rule}
 use Rattle.window_search.specs.declared.Found.{Found}
-use Rattle.wide_window_search.specs.declared.WideRule.{WideRule}
+use Rattle.text_search.specs.declared.BothMasks.{BothMasks}
 
 -- ---- the search
 
@@ -40,16 +41,26 @@ pub record SearchIs (flag : ℕ) (rule codes sets text list : List ℕ) (r : Ans
   pub answers : r ≡ search_answer flag codes sets text (length list) (parse_with (fold_flag flag) rule codes sets)
   pub lists : list' ≡ search_list flag codes sets text list (parse_with (fold_flag flag) rule codes sets)
 
+-- the same of its answer, or of why and where it is refused
+abbrev pub SearchTried : (flag : ℕ) (rule codes sets text list : List ℕ) (r : Result Answer Refused) (list' : List ℕ) → Type 0
+SearchTried flag rule codes sets text list r list' =
+    MatchResult r (λ a. SearchIs flag rule codes sets text list a list') (λ e. SearchIs flag rule codes sets text list (refusing (number_of e.refusal) e.place) list')
+
 -- ---- its parts
 
-pub record WholeIs (text lent r : ℕ) : Type 0 where
-  pub is : r ≡ whole_refusal text lent
-  pub small : r ≡ 0 → text ≤ text_limit
-  pub room : r ≡ 0 → text ≤ lent
+-- a text and a list that nothing refuses
+pub record WholeFits (text lent : ℕ) : Type 0 where
+  pub is : whole_refusal text lent ≡ 0
+  pub small : text ≤ text_limit
+  pub room : text ≤ lent
+
+-- or that are refused, by the model's number
+pub record WholeRefused (text lent : ℕ) (x : Refusal) : Type 0 where
+  pub is : whole_refusal text lent ≡ number_of x
+  pub some : number_of x ≡ 0 → ⊥
 
 -- a prepared rule's masks in both directions
-pub record PreparedIs (p : Prepared) (r : WideRule) : Type 0 where
-  pub size : r.shortest ≡ p.shortest
+pub record PreparedIs (p : Prepared) (r : BothMasks) : Type 0 where
   pub on : r.forward ≡ record { repeats = p.repeats; optional = p.optional; top = p.positions }
   pub back : r.reversed ≡ record { repeats = words_of (mirror (number p.repeats) p.positions); optional = words_of (mirror (number p.optional) p.positions); top = p.positions }
 
@@ -57,19 +68,10 @@ pub record PreparedIs (p : Prepared) (r : WideRule) : Type 0 where
 abbrev pub low_masks : WideMasks → Masks
 low_masks m = record { repeats = m.repeats.w0; optional = m.optional.w0; top = m.top }
 
-abbrev pub low_rule : WideRule → Rule
-low_rule q = record { shortest = q.shortest; forward = low_masks q.forward; reversed = low_masks q.reversed }
-
-pub record LowPreparedIs (p : Prepared) (r : Rule) : Type 0 where
-  pub wide : WideRule
-  pub prepares : PreparedIs p wide
-  pub is : r ≡ low_rule wide
-
 pub record Ready (flag : ℕ) (rule codes sets : List ℕ) (p : Prepared) (text lent : ℕ) : Type 0 where
   pub bytes : T (all is_byte rule)
   pub code-bytes : T (all is_byte codes)
-  pub prepares : PreparesWith flag rule codes sets p
-  pub accepted : p.number ≡ 0
+  pub prepares : PreparedWith flag rule codes sets p
   pub small : text < 2 ^ 32
   pub room : text ≤ lent
 

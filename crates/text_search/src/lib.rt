@@ -1,55 +1,55 @@
 // The window search of a whole decoded text.
 #![tactic(auto)]
 
-ghost use Rattle.std.specs.Prelude.{◌≡◌, ◌<◌, ◌≤◌, length};
+ghost use Rattle.std.specs.Prelude.{◌≡◌, ◌<◌, ◌≤◌, length, MatchResult};
 ghost use Rattle.model.specs.RuleText.{position_limit};
-ghost use Rattle.text_search.specs.Searching.{WholeIs, Ready, ReadyLow, PreparedIs, LowPreparedIs, low_masks, FoundIs, WorkIs, SearchIs};
+ghost use Rattle.text_search.specs.Searching.{WholeFits, WholeRefused, Ready, ReadyLow, PreparedIs, low_masks, FoundIs, WorkIs, SearchIs, SearchTried};
 
-use answers::Answer;
+use answers::{Answer, Refusal, Refused};
 use rule_parser::Prepared;
 use shift_and_step::Masks;
 use shift_and_wide::WideMasks;
-use wide_window_search::WideRule;
-use window_search::{Found, Rule};
+use window_reader::{WideReader, WordReader};
+use window_search::Found;
 
-// The number of the refusal of a call on a whole text with a list of so many entries, or 0.
-fn whole(text: usize, list: usize) -> u32
-    ensures { WholeIs text list result }
+// Whether a call on a whole text with a list of so many entries is let in, or why not.
+fn whole(text: usize, list: usize) -> Result<(), Refusal>
+    ensures { MatchResult result (λ _. WholeFits text list) (WholeRefused text list) }
 {
     if text > limits::TEXT_LIMIT {
-        return answers::TOO_MUCH;
+        return Err(Refusal::TooMuch);
     }
     if list < text {
-        return answers::TOO_SHORT;
+        return Err(Refusal::TooShort);
     }
-    0
+    Ok(())
 }
 
 // A prepared rule's masks in both directions.
-fn rule_of(p: Prepared) -> WideRule
+#[derive(Clone, Copy)]
+struct BothMasks {
+    forward: WideMasks,
+    reversed: WideMasks,
+}
+
+fn masks_of(p: Prepared) -> BothMasks
     requires { p.positions ≤ position_limit }
     ensures { PreparedIs p result }
 {
-    let n = p.positions as u64;
-    let size = p.shortest as usize;
-    let on_repeats = p.repeats;
-    let on_optional = p.optional;
-    let repeats = rule_table::mirrored(on_repeats, p.positions);
-    let optional = rule_table::mirrored(on_optional, p.positions);
-    let forward = WideMasks {
-        repeats: on_repeats,
-        optional: on_optional,
-        top: n,
-    };
-    let reversed = WideMasks {
-        repeats: repeats,
-        optional: optional,
-        top: n,
-    };
-    WideRule {
-        shortest: size,
-        forward: forward,
-        reversed: reversed,
+    let top = p.positions as u64;
+    let repeats = p.repeats;
+    let optional = p.optional;
+    BothMasks {
+        forward: WideMasks {
+            repeats,
+            optional,
+            top,
+        },
+        reversed: WideMasks {
+            repeats: rule_table::mirrored(repeats, p.positions),
+            optional: rule_table::mirrored(optional, p.positions),
+            top,
+        },
     }
 }
 
@@ -63,23 +63,6 @@ fn low_masks(m: WideMasks) -> Masks
         repeats: again.w0,
         optional: free.w0,
         top: m.top,
-    }
-}
-
-// The lowest words of a prepared rule's masks.
-fn low_rule_of(p: Prepared) -> Rule
-    requires { p.positions ≤ position_limit }
-    ensures { LowPreparedIs p result }
-{
-    let q = rule_of(p);
-    let on = q.forward;
-    let back = q.reversed;
-    let forward = low_masks(on);
-    let reversed = low_masks(back);
-    Rule {
-        shortest: q.shortest,
-        forward: forward,
-        reversed: reversed,
     }
 }
 
@@ -97,15 +80,17 @@ fn search_low(
     ensures { FoundIs fold rule.now codes.now sets.now text.now starts.old result starts.new }
 {
     let total = p.positions;
-    let low = low_rule_of(p);
+    let size = p.shortest as usize;
+    let masks = masks_of(p);
     let mut forward = [0u64; 256];
     code_table::fill_plane(rule, fold, codes, sets, total, &mut forward, false, 0);
     let mut reversed = [0u64; 256];
     code_table::fill_plane(rule, fold, codes, sets, total, &mut reversed, true, 0);
     let mut first = [0u64; 256];
-    let back = low.reversed;
-    window_reader::last_byte_states(&reversed, back, &mut first);
-    window_search::search_tables(&forward, &reversed, &first, low, text, starts)
+    let on = WordReader::new(&forward, low_masks(masks.forward));
+    let back = WordReader::new(&reversed, low_masks(masks.reversed));
+    window_reader::last_byte_states(&back, &mut first);
+    window_search::search_tables(&on, &back, &first, size, text, starts)
 }
 
 // The same for a rule of any number of positions, in four.
@@ -122,15 +107,17 @@ fn search_wide(
     ensures { FoundIs fold rule.now codes.now sets.now text.now starts.old result starts.new }
 {
     let total = p.positions;
-    let prepared = rule_of(p);
+    let size = p.shortest as usize;
+    let masks = masks_of(p);
     let mut forward = [0u64; 1024];
     code_table::fill(rule, fold, codes, sets, total, &mut forward, false);
     let mut reversed = [0u64; 1024];
     code_table::fill(rule, fold, codes, sets, total, &mut reversed, true);
     let mut first = [0u64; 1024];
-    let back = prepared.reversed;
-    wide_window_reader::last_byte_states(&reversed, back, &mut first);
-    wide_window_search::search_tables(&forward, &reversed, &first, prepared, text, starts)
+    let on = WideReader::new(&forward, masks.forward);
+    let back = WideReader::new(&reversed, masks.reversed);
+    window_reader::last_byte_states(&back, &mut first);
+    window_search::search_tables(&on, &back, &first, size, text, starts)
 }
 
 // What a search finds, in one word where that does.
@@ -166,12 +153,26 @@ fn search_accepted(
     ensures { WorkIs fold rule.now codes.now sets.now text.now starts.old result starts.new }
 {
     let f = search_found(rule, fold, codes, sets, p, text, starts);
-    let count = f.count as u32;
-    let windows = f.windows as u32;
-    answers::counted(count, windows)
+    Answer::counted(f.count as u32, f.windows as u32)
 }
 
 // Searches a whole decoded text for a rule with codes: the starts of occurrences, and how many windows were tried.
+fn try_search(
+    rule: &[u8],
+    fold: u32,
+    codes: &[u8],
+    sets: &[u8],
+    text: &[u8],
+    starts: &mut [u32],
+) -> Result<Answer, Refused>
+    ensures { SearchTried fold rule.now codes.now sets.now text.now starts.old result starts.new }
+{
+    let p = rule_codes::prepare(rule, fold, codes, sets)?;
+    whole(text.len(), starts.len())?;
+    Ok(search_accepted(rule, fold, codes, sets, p, text, starts))
+}
+
+// The same, as a host is answered.
 pub fn search(
     rule: &[u8],
     fold: u32,
@@ -182,13 +183,8 @@ pub fn search(
 ) -> Answer
     ensures { SearchIs fold rule.now codes.now sets.now text.now starts.old result starts.new }
 {
-    let p = rule_codes::prepare(rule, fold, codes, sets);
-    if p.number != 0 {
-        return answers::refused(p.number, p.place);
+    match try_search(rule, fold, codes, sets, text, starts) {
+        Ok(answer) => answer,
+        Err(refused) => Answer::from(refused),
     }
-    let number = whole(text.len(), starts.len());
-    if number != 0 {
-        return answers::refused(number, 0);
-    }
-    search_accepted(rule, fold, codes, sets, p, text, starts)
 }

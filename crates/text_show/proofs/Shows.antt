@@ -1,5 +1,5 @@
 -- The part that is shown, for any rule, text and start. On plain values. Assumes nothing.
-use mathlib.Core.Path.{◌≡◌, sym, ap, ◌∙◌}
+use mathlib.Core.Path.{◌≡◌, sym, ap, subst, ◌∙◌}
 use mathlib.Core.Bool.{Bool, false, cond}
 use mathlib.Core.List.{List}
 use Prim.Native.Nat.{ℕ, ◌+◌, ◌-◌, ◌≤◌, ◌<◌}
@@ -19,11 +19,12 @@ use Rattle.shift_and.specs.Masks.{Encodes}
 use Rattle.shift_and_step.specs.declared.Masks.{Masks}
 use Rattle.shift_and_step.specs.Stepping.{automaton_of, TableFits}
 use Rattle.shift_and_wide.specs.declared.WideMasks.{WideMasks}
-use Rattle.shift_and_wide.specs.Stepping.{wide_automaton_of, numbered, WideTableFits}
+use Rattle.shift_and_wide.specs.Stepping.{WideAutomaton, wide_automaton_of, numbered, WideTableFits}
 use Rattle.rule_parser.specs.declared.Prepared.{Prepared}
-use Rattle.rule_parser.specs.Preparing.{Prepares}
+use Rattle.rule_parser.specs.Preparing.{PreparedRule, RuleRefused}
 use Rattle.rule_table.specs.Tables.{PlaneFillable, PlaneFilled, Fillable, Filled}
-use Rattle.rule_table.proofs.Encoded.{is-refused, is-accepted, may_fill, may_fill_plane, filled_encodes, plane_encodes}
+use Rattle.rule_table.proofs.Encoded.{is-accepted, may_fill, may_fill_plane, filled_encodes, plane_encodes}
+use Rattle.answers.specs.declared.Refused.{Refused}
 use Rattle.answers.specs.declared.Span.{Span}
 use Rattle.window_search.specs.Searching.{span_of, SpanIs}
 use Rattle.text_show.specs.Showing.{Showable, ShowableLow, PartIs, ShownIs, shown_bytes, ShowsPart}
@@ -35,11 +36,11 @@ module _ (flag : ℕ) (rule : List ℕ) (p : Prepared) (len start : ℕ) (r : Sh
   showable-low h = record { showable = r; low = h }
 
   pub shown-fillable : (table : List ℕ) → length table ≡ 1024 → Fillable flag rule p.positions table
-  shown-fillable table l = may_fill flag rule p r.prepares r.accepted table l
+  shown-fillable table l = may_fill flag rule p r.prepares table l
 
   part_of : (F : Automaton) → Encodes F (rule_positions (fold_flag flag) rule) → T (all is_byte rule) → (text : List ℕ) (y : Span) → SpanIs F text start y → PartIs flag rule text start y
   part_of F e bytes text y i =
-      let a = is-accepted flag rule p r.prepares r.accepted in
+      let a = is-accepted flag rule p r.prepares in
       let ok = rule_ok (fold_flag flag) rule a.elements bytes a.parses in
       record { is = i.means (rule_positions (fold_flag flag) rule) e ok.not_empty; ordered = i.ordered; inside = i.inside }
 
@@ -50,12 +51,15 @@ module _ (flag : ℕ) (rule : List ℕ) (p : Prepared) (len start : ℕ) (r : Sh
     pub shown-fits : WideTableFits forward wide_masks
     shown-fits = let n = r.prepares.few in record { long = f.long; top = omega arith }
 
-    pub part-shown : T (all is_byte rule) → (text : List ℕ) (y : Span) → SpanIs (numbered (wide_automaton_of forward wide_masks)) text start y → PartIs flag rule text start y
-    part-shown = part_of (numbered (wide_automaton_of forward wide_masks)) (filled_encodes flag rule p r.prepares r.accepted forward f).numbers
+    pub part-shown : {A : WideAutomaton} → A ≡ wide_automaton_of forward wide_masks → T (all is_byte rule) → (text : List ℕ) (y : Span) → SpanIs (numbered A) text start y
+        → PartIs flag rule text start y
+    part-shown q bytes text y i =
+        part_of (numbered (wide_automaton_of forward wide_masks)) (filled_encodes flag rule p r.prepares forward f).numbers bytes text y
+        (subst (λ (x : WideAutomaton). SpanIs (numbered x) text start y) q i)
 
 module _ (flag : ℕ) (rule : List ℕ) (p : Prepared) (len start : ℕ) (r : ShowableLow flag rule p len start) where
   pub shown-low-fillable : (plane : List ℕ) → length plane ≡ 256 → PlaneFillable flag rule p.positions plane 0
-  shown-low-fillable plane l = may_fill_plane flag rule p r.showable.prepares r.showable.accepted plane 0 l (omega arith)
+  shown-low-fillable plane l = may_fill_plane flag rule p r.showable.prepares plane 0 l (omega arith)
 
   module _ (forward : List ℕ) (f : PlaneFilled flag rule false forward 0) where
     abbrev low_masks_lem : Masks
@@ -64,8 +68,10 @@ module _ (flag : ℕ) (rule : List ℕ) (p : Prepared) (len start : ℕ) (r : Sh
     pub shown-low-fits : TableFits forward low_masks_lem
     shown-low-fits = let n = r.low in record { long = f.long; top = omega arith }
 
-    pub part-low-shown : T (all is_byte rule) → (text : List ℕ) (y : Span) → SpanIs (automaton_of forward low_masks_lem) text start y → PartIs flag rule text start y
-    part-low-shown = part_of flag rule p len start r.showable (automaton_of forward low_masks_lem) (plane_encodes flag rule p r.showable.prepares r.showable.accepted r.low forward f)
+    pub part-low-shown : {A : Automaton} → A ≡ automaton_of forward low_masks_lem → T (all is_byte rule) → (text : List ℕ) (y : Span) → SpanIs A text start y → PartIs flag rule text start y
+    part-low-shown q bytes text y i =
+        part_of flag rule p len start r.showable (automaton_of forward low_masks_lem) (plane_encodes flag rule p r.showable.prepares r.low forward f) bytes text y
+        (subst (λ (x : Automaton). SpanIs x text start y) q i)
 
 -- ---- `span`
 
@@ -77,32 +83,31 @@ module _ (flag : ℕ) (rule text : List ℕ) (s : ℕ) where
   nothing : record { from = length text; to = length text } ≡ span_of (shown flag rule text s) → Nothing
   nothing e = record { is = e; ordered = omega arith; inside = omega arith }
 
-  module _ (p : Prepared) (hp : Prepares flag rule p) where
-    pub shown-refused : (p.number ≡ 0 → ⊥) → Nothing
-    shown-refused z = let a = is-refused flag rule p hp z in nothing (rw a)
+  pub shown-refused : (e : Refused) → RuleRefused flag rule e → Nothing
+  shown-refused e r = nothing (rw r.is)
 
-    module _ (z : p.number ≡ 0) where
-      pub shown-long : text_limit < length text → Nothing
-      shown-long h = let a = (is-accepted flag rule p hp z).parses in nothing (rw (a, lt-ltb _ _ h))
+  module _ (p : Prepared) (hp : PreparedRule flag rule p) where
+    pub shown-long : text_limit < length text → Nothing
+    shown-long h = let a = hp.parses in nothing (rw (a, lt-ltb _ _ h))
 
-      module _ (h : length text ≤ text_limit) where
-        by_part : shown flag rule text s ≡ part_from (rule_positions (fold_flag flag) rule) text s
-        by_part =
-            let a = is-accepted flag rule p hp z in
-            let q : rule_positions (fold_flag flag) rule ≡ positions (fold_flag flag) a.elements = ap (positions_by (fold_flag flag)) a.parses in
-            ap (λ (x : Parsed). part_by (fold_flag flag) x text s) a.parses
-            ∙ ap (λ (b : Bool). cond b (empty_part text) (part_from (positions (fold_flag flag) a.elements) text s)) (le-ltb _ _ h)
-            ∙ ap (λ (ps : List Position). part_from ps text s) (sym q)
+    module _ (h : length text ≤ text_limit) where
+      by_part : shown flag rule text s ≡ part_from (rule_positions (fold_flag flag) rule) text s
+      by_part =
+          let a = is-accepted flag rule p hp in
+          let q : rule_positions (fold_flag flag) rule ≡ positions (fold_flag flag) a.elements = ap (positions_by (fold_flag flag)) a.parses in
+          ap (λ (x : Parsed). part_by (fold_flag flag) x text s) a.parses
+          ∙ ap (λ (b : Bool). cond b (empty_part text) (part_from (positions (fold_flag flag) a.elements) text s)) (le-ltb _ _ h)
+          ∙ ap (λ (ps : List Position). part_from ps text s) (sym q)
 
-        pub shown-past : length text < s → Nothing
-        shown-past l =
-            nothing (sym (ap span_of (by_part ∙ part-empty (rule_positions (fold_flag flag) rule) text s (λ o. let a = o.1.ordered in let b = o.1.inside in omega arith))))
+      pub shown-past : length text < s → Nothing
+      shown-past l =
+          nothing (sym (ap span_of (by_part ∙ part-empty (rule_positions (fold_flag flag) rule) text s (λ o. let a = o.1.ordered in let b = o.1.inside in omega arith))))
 
-        pub shown-ready : s ≤ length text → Showable flag rule p (length text) s
-        shown-ready l = record { prepares = hp; accepted = z; within = l }
+      pub shown-ready : s ≤ length text → Showable flag rule p (length text) s
+      shown-ready l = record { prepares = hp; within = l }
 
-        pub shown-done : (y : Span) → PartIs flag rule text s y → ShownIs flag rule text s y
-        shown-done y i = record { is = i.is ∙ ap span_of (sym by_part); ordered = i.ordered; inside = i.inside }
+      pub shown-done : (y : Span) → PartIs flag rule text s y → ShownIs flag rule text s y
+      shown-done y i = record { is = i.is ∙ ap span_of (sym by_part); ordered = i.ordered; inside = i.inside }
 
 -- ---- `show`
 

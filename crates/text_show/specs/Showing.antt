@@ -6,7 +6,7 @@ use Rattle.model.specs.NumberedAnswers.{rule_positions}
 use Rattle.model.specs.WindowSearch.{part_from, shown}
 use Rattle.shift_and.specs.Automaton.{word_bits}
 use Rattle.rule_parser.specs.declared.Prepared.{Prepared}
-use Rattle.rule_parser.specs.Preparing.{Prepares}
+use Rattle.rule_parser.specs.Preparing.{PreparedRule}
 use Rattle.answers.specs.declared.Span.{Span}
 use Rattle.window_search.specs.Searching.{span_of}
 
@@ -29,8 +29,7 @@ pub record ShowsPart (flag : ℕ) (rule text : List ℕ) (lies : ℕ × ℕ) (st
 -- ---- its parts
 
 pub record Showable (flag : ℕ) (rule : List ℕ) (p : Prepared) (len start : ℕ) : Type 0 where
-  pub prepares : Prepares flag rule p
-  pub accepted : p.number ≡ 0
+  pub prepares : PreparedRule flag rule p
   pub within : start ≤ len
 
 pub record ShowableLow (flag : ℕ) (rule : List ℕ) (p : Prepared) (len start : ℕ) : Type 0 where

@@ -1,6 +1,7 @@
 // The part of a decoded text that is shown: an occurrence, from its start to the earliest end there. It takes no codes.
 #![tactic(auto)]
 
+ghost use Rattle.rule_parser.specs.Preparing.{PreparedRule};
 ghost use Rattle.text_show.specs.Showing.{Showable, ShowableLow, PartIs, ShownIs, ShowsPart};
 ghost use Rattle.std.specs.Prelude.{length};
 
@@ -8,6 +9,7 @@ use answers::Span;
 use rule_parser::Prepared;
 use shift_and_step::Masks;
 use shift_and_wide::WideMasks;
+use window_reader::{WideReader, WordReader};
 
 // The work of showing, for a rule of at most 63 positions.
 fn span_low(rule: &[u8], fold: u32, p: Prepared, text: &[u8], start: usize) -> Span
@@ -24,7 +26,8 @@ fn span_low(rule: &[u8], fold: u32, p: Prepared, text: &[u8], start: usize) -> S
     };
     let mut forward = [0u64; 256];
     rule_table::fill_plane(rule, fold, total, &mut forward, false, 0);
-    window_search::part_from(&forward, masks, text, start)
+    let reader = WordReader::new(&forward, masks);
+    window_search::part_from(&reader, text, start)
 }
 
 // The same for a rule of any number of positions.
@@ -42,7 +45,8 @@ fn span_wide(rule: &[u8], fold: u32, p: Prepared, text: &[u8], start: usize) -> 
     };
     let mut forward = [0u64; 1024];
     rule_table::fill(rule, fold, total, &mut forward, false);
-    wide_window_search::part_from(&forward, masks, text, start)
+    let reader = WideReader::new(&forward, masks);
+    window_search::part_from(&reader, text, start)
 }
 
 // The work of showing, for an accepted rule: in one word where that does.
@@ -56,15 +60,12 @@ fn span_accepted(rule: &[u8], fold: u32, p: Prepared, text: &[u8], start: usize)
     span_wide(rule, fold, p, text, start)
 }
 
-// The part of the text that is shown, as its two places.
-pub fn span(rule: &[u8], fold: u32, text: &[u8], start: usize) -> Span
+// The work of showing, for an accepted rule: nothing in a text over the limit or from a start past its end.
+fn span_prepared(rule: &[u8], fold: u32, p: Prepared, text: &[u8], start: usize) -> Span
+    requires { PreparedRule fold rule.now p }
     ensures { ShownIs fold rule.now text.now start result }
 {
     let len = text.len();
-    let p = rule_parser::prepare(rule, fold);
-    if p.number != 0 {
-        return Span { from: len, to: len };
-    }
     if len > limits::TEXT_LIMIT {
         return Span { from: len, to: len };
     }
@@ -72,6 +73,19 @@ pub fn span(rule: &[u8], fold: u32, text: &[u8], start: usize) -> Span
         return Span { from: len, to: len };
     }
     span_accepted(rule, fold, p, text, start)
+}
+
+// The part of the text that is shown, as its two places.
+pub fn span(rule: &[u8], fold: u32, text: &[u8], start: usize) -> Span
+    ensures { ShownIs fold rule.now text.now start result }
+{
+    match rule_parser::prepare(rule, fold) {
+        Ok(p) => span_prepared(rule, fold, p, text, start),
+        Err(_) => Span {
+            from: text.len(),
+            to: text.len(),
+        },
+    }
 }
 
 // Shows an occurrence: that part of the caller's text from the start to the earliest end there, or the

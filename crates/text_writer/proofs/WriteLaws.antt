@@ -1,72 +1,44 @@
 -- The laws of `copy_tail` and `fill`, and of an answer. On plain values. Assumes nothing.
-use mathlib.Core.Path.{◌≡◌, refl, sym, ap, ◌∙◌}
-use mathlib.Core.List.{List, []}
-use Prim.Native.Nat.{ℕ, suc, ◌+◌, ◌-◌, ◌≤◌, ◌<◌}
-use native.Mathlib.Omega.{arith}
-use native.Mathlib.Numerals.{add-one}
-use lib.ListN.{length, drop, get_or, set, replicate, length-drop, length-set, drop_of_length-le}
-use lib.Seq.{sets, drop-cons}
+use Rattle.std.proofs.Common.{◌≡◌, ℕ, ◌+◌, ◌≤◌, ◌<◌, List, ◌++◌, length, take, drop, refl, sym, ap, ◌∙◌, arith}
+use Rattle.std.proofs.lemmas.List.Edits.{sets-eq, paste_more}
+use Rattle.std.proofs.lemmas.Slice.{put_mid-paste}
+use lib.Seq.{paste, sets, take-length}
+use lib.ListN.{set, get_or, replicate, length-drop, length-replicate}
+use borrow.Rule.Slice.PartMut.{put_mid}
 use Rattle.model.specs.NumberedAnswers.{TextAnswer, text_buffer}
 use Rattle.answers.specs.declared.Text.{Text}
 use Rattle.text_writer.specs.Writing.{TailCopied, Filled, text_answer, WritesText}
 
--- ---- `copy_tail`
+-- a list pasted whole is what its stores leave
+pasted : (out : List ℕ) (at : ℕ) (vs : List ℕ) → at + length vs ≤ length out → paste out at vs (length vs) ≡ sets out at vs
+pasted out at vs h = ap (λ (t : List ℕ). take at out ++ t ++ drop (at + length vs) out) (take-length vs) ∙ sym (sets-eq vs out at h)
 
-pub record TailInvariant (raw : List ℕ) (from : ℕ) (out₀ : List ℕ) (at : ℕ) (out : List ℕ) (i end : ℕ) : Type 0 where
-  pub within : i ≤ length raw
-  pub level : end + from ≡ at + i
-  pub long : length out ≡ length out₀
-  pub list : sets out end (drop i raw) ≡ sets out₀ at (drop from raw)
+-- `copy_tail`, whose loop has copied n bytes of the tail
+module _ (raw : List ℕ) (from : ℕ) (out : List ℕ) (at : ℕ) (h : from ≤ length raw) (k : at + length raw ≤ length out + from) where
+  module _ (tail : List ℕ) (t : tail ≡ drop from raw) where
+    room : at + length tail ≤ length out
+    room = omega (arith, ap length t, length-drop from raw)
 
-module _ (raw : List ℕ) (from : ℕ) (out₀ : List ℕ) (at : ℕ) (h : from ≤ length raw) where
-  pub tail-begun : TailInvariant raw from out₀ at out₀ from at
-  tail-begun = record { within = h; level = refl; long = refl; list = refl }
+    module _ (n : ℕ) (out' : List ℕ) (e : out' ≡ paste out at tail n) where
+      pub tail_turn : n < length tail → set out' (at + n) (get_or tail n 0) ≡ paste out at tail (n + 1)
+      tail_turn l = ap (λ (o : List ℕ). set o (at + n) (get_or tail n 0)) e ∙ paste_more out at tail n 0 (let r = room in omega arith) l
 
-  module _ {out : List ℕ} {i end : ℕ} (g : TailInvariant raw from out₀ at out i end) where
-    pub tail-turn : i < length raw → TailInvariant raw from out₀ at (set out end (get_or raw i 0)) (i + 1) (end + 1)
-    tail-turn l =
-        let v = g.level in
-        record {
-          within = omega arith;
-          level = omega arith;
-          long = length-set out end (get_or raw i 0) ∙ g.long;
-          list = rw (add-one i, add-one end) (sym (ap (sets out end) (drop-cons raw i 0 l)) ∙ g.list);
-        }
+      pub tail_copied : n ≡ length tail → TailCopied raw from out at (at + length tail) out'
+      tail_copied l =
+          record {
+            count = ap (λ (v : List ℕ). at + length v) t;
+            list = e ∙ ap (paste out at tail) l ∙ pasted out at tail room ∙ ap (sets out at) t;
+          }
 
-    pub tail-over : length raw ≤ i → TailCopied raw from out₀ at end out
-    tail-over stop =
-        let n : drop i raw ≡ [] = drop_of_length-le raw stop in
-        let v = g.level in
-        let w = g.within in
-        record { count = omega (arith, length-drop from raw); list = rw n at g.list }
-
--- ---- `fill`
-
--- the bytes up to i are written
-pub record Filling (out₀ : List ℕ) (at byte end : ℕ) (out : List ℕ) (i : ℕ) : Type 0 where
-  pub within : i ≤ end
-  pub long : length out ≡ length out₀
-  pub list : sets out i (replicate (end - i) byte) ≡ sets out₀ at (replicate (end - at) byte)
-
-module _ (out₀ : List ℕ) (at byte : ℕ) where
-  pub fill_begun : (n : ℕ) → Filling out₀ at byte (at + n) out₀ at
-  fill_begun n = record { within = omega arith; long = refl; list = refl }
-
-  module _ (end : ℕ) (out : List ℕ) (i : ℕ) (g : Filling out₀ at byte end out i) where
-    pub fill_turn : i < end → Filling out₀ at byte end (set out i byte) (i + 1)
-    fill_turn l =
-        let e : end - i ≡ suc (end - (i + 1)) = omega arith in
-        record {
-          within = omega arith;
-          long = length-set out i byte ∙ g.long;
-          list = rw (add-one i) (sym (ap (λ (k : ℕ). sets out i (replicate k byte)) (e ∙ ap (λ (j : ℕ). suc (end - j)) (add-one i))) ∙ g.list);
-        }
-
-    pub fill_over : end ≤ i → (n : ℕ) → end ≡ at + n → Filled out₀ at byte n end out
-    fill_over h n e =
-        let z : end - i ≡ 0 = omega arith in
-        let w : end - at ≡ n = omega arith in
-        record { count = e; list = sym (ap (λ (k : ℕ). sets out i (replicate k byte)) z) ∙ g.list ∙ ap (λ (k : ℕ). sets out₀ at (replicate k byte)) w }
+-- `fill`
+pub filled : (out : List ℕ) (at byte n : ℕ) → at + n ≤ length out → (part : List ℕ) → part ≡ replicate n byte → (k : ℕ) → k ≡ n
+    → Filled out at byte n (at + n) (put_mid at k out part)
+filled out at byte n h part e k l =
+    let z = length-replicate n byte in
+    record {
+      count = refl;
+      list = put_mid-paste at k out part (replicate n byte) (length (replicate n byte)) e (z ∙ sym l) refl ∙ pasted out at (replicate n byte) (omega (arith, z));
+    }
 
 -- ---- an answer
 

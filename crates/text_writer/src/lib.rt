@@ -4,20 +4,18 @@
 ghost use Rattle.std.specs.Prelude.{◌+◌, ◌≤◌, length};
 ghost use Rattle.text_writer.specs.Writing.{TailCopied, Filled};
 
-// Copies the bytes from `from` on as they came, to `at` on, and returns where they end.
+// Copies the bytes from `from` on as they came, to `at` on, and returns where they end. A loop, since `copy_from_slice`
+// would make the archive need `memmove`.
 pub fn copy_tail(raw: &[u8], from: usize, out: &mut [u8], at: usize) -> usize
     requires from_in_bounds { from ≤ length raw.now }
     requires raw_in_bounds { at + length raw.now ≤ length out.old + from }
     ensures { TailCopied raw.now from out.old at result out.new }
 {
-    let mut i = from;
-    let mut end = at;
-    while i < raw.len() {
-        out[end] = raw[i];
-        i += 1;
-        end += 1;
+    let tail = &raw[from..];
+    for (i, byte) in tail.iter().enumerate() {
+        out[at + i] = *byte;
     }
-    end
+    at + tail.len()
 }
 
 // Writes n times the same byte, to `at` on, and returns where they end.
@@ -26,10 +24,6 @@ pub fn fill(out: &mut [u8], at: usize, byte: u8, n: usize) -> usize
     ensures { Filled out.old at byte n result out.new }
 {
     let end = at + n;
-    let mut i = at;
-    while i < end {
-        out[i] = byte;
-        i += 1;
-    }
+    out[at..end].fill(byte);
     end
 }

@@ -1,12 +1,13 @@
 -- A name read by an automaton, and what the call answers. Assumes nothing.
-use Rattle.std.specs.Prelude.{◌≡◌, Bool, false, cond, List, [], ◌∷◌, ℕ, ◌<◌, eqb}
+use Rattle.std.specs.Prelude.{◌≡◌, Bool, false, cond, List, [], ◌∷◌, ℕ, ◌<◌, eqb, Result, MatchResult}
 use Rattle.model.specs.WholeNames.{CoverAnswer, turns_down, says, covered}
 use Rattle.shift_and.specs.ForwardStep.{top_bit}
 use Rattle.shift_and.specs.Automaton.{word_bits, Automaton, step_on, opening_state}
 use Rattle.rule_parser.specs.declared.Prepared.{Prepared}
-use Rattle.rule_parser.specs.Preparing.{Prepares}
+use Rattle.rule_parser.specs.Preparing.{PreparedRule}
 use Rattle.answers.specs.declared.Covered.{Covered}
-use Rattle.answers.specs.Answers.{refusing_name, judged_name}
+use Rattle.answers.specs.declared.Refused.{Refused}
+use Rattle.answers.specs.Answers.{number_of, refusing_name, judged_name}
 
 -- From the states d on, without new beginnings: whether the top position is reached with the last byte. Where no state is left, it is not.
 unfoldable pub reads_from : Automaton → (d : ℕ) → List ℕ → Bool
@@ -19,8 +20,7 @@ reads_whole A name = reads_from A (opening_state A) name
 -- ---- what the functions ask and give
 
 pub record Coverable (flag : ℕ) (rule : List ℕ) (p : Prepared) : Type 0 where
-  pub prepares : Prepares flag rule p
-  pub accepted : p.number ≡ 0
+  pub prepares : PreparedRule flag rule p
 
 pub record CoverableLow (flag : ℕ) (rule : List ℕ) (p : Prepared) : Type 0 where
   pub coverable : Coverable flag rule p
@@ -33,3 +33,7 @@ cover_answer (says b) = judged_name b
 
 abbrev pub CoversIs : (flag : ℕ) (rule name : List ℕ) → Covered → Type 0
 CoversIs flag rule name r = r ≡ cover_answer (covered flag rule name)
+
+-- the same of whether it is covered, or of why and where nothing is said
+abbrev pub CoversTried : (flag : ℕ) (rule name : List ℕ) → Result Bool Refused → Type 0
+CoversTried flag rule name r = MatchResult r (λ b. CoversIs flag rule name (judged_name b)) (λ e. CoversIs flag rule name (refusing_name (number_of e.refusal) e.place))

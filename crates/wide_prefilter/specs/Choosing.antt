@@ -1,5 +1,5 @@
 -- Where the lowest word alone gives what four words do, and what is promised of a way to run. Assumes nothing.
-use Rattle.std.specs.Prelude.{◌≡◌, List, Bool, true, ℕ, ◌%◌, ◌^◌, ◌≤◌, ◌<◌, length, get_or, take}
+use Rattle.std.specs.Prelude.{◌≡◌, List, Bool, true, ℕ, ◌%◌, ◌^◌, ◌≤◌, ◌<◌, length, get_or, take, Some}
 use Rattle.prefilter.specs.declared.Prefilter.{Prefilter}
 use Rattle.prefilter.specs.Soundness.{PrefilterSound}
 use Rattle.shift_and.specs.Automaton.{state_after, ends_in}
@@ -72,4 +72,4 @@ pub record LowSound (t : List ℕ) (m : WideMasks) (p : Prefilter) : Type 0 wher
 
 -- The way of a run that the lowest word alone does not do: in parts, if so chosen.
 pub record WideSound (t : List ℕ) (m : WideMasks) (p : WidePrefilter) : Type 0 where
-  pub parts : p.parts ≡ true → LowSound t m p.filter
+  pub parts : (filter : Prefilter) → p.parts ≡ Some filter → LowSound t m filter

@@ -15,16 +15,7 @@ use shift_and_wide::{Wide, WideMasks};
 pub fn is_quiet(d: Wide) -> bool
     ensures { QuietIs d result }
 {
-    if d.w1 != 0 {
-        return false;
-    }
-    if d.w2 != 0 {
-        return false;
-    }
-    if d.w3 != 0 {
-        return false;
-    }
-    d.w0 < 0x8000_0000_0000_0000
+    is_low(d) && d.w0 < 1 << 63
 }
 
 // Whether a run may try the lowest word alone: the top position stands above it, and bit 0 is not
@@ -32,23 +23,17 @@ pub fn is_quiet(d: Wide) -> bool
 fn may_try_low(m: WideMasks) -> bool
     ensures { MayTryLow m result }
 {
-    if m.top < 64 {
-        return false;
-    }
-    let q = m.optional;
-    q.w0 % 2 == 0
+    64 <= m.top && m.optional.w0 % 2 == 0
 }
 
 // The masks of the lowest word.
 pub fn low_masks(m: WideMasks, top: u64) -> Masks
     ensures { result ≡ low_masks top m }
 {
-    let again = m.repeats;
-    let q = m.optional;
     Masks {
-        repeats: again.w0,
-        optional: q.w0,
-        top: top,
+        repeats: m.repeats.w0,
+        optional: m.optional.w0,
+        top,
     }
 }
 
@@ -67,37 +52,21 @@ pub fn low_of(x: u64) -> Wide
 fn all_even(plane: &[u64]) -> bool
     ensures { EvenIs plane.now result }
 {
-    let mut all = 0u64;
-    let mut c = 0;
-    while c < plane.len() {
-        all = all | plane[c];
-        c += 1;
-    }
-    all % 2 == 0
+    plane.iter().fold(0, |all, word| all | word) % 2 == 0
 }
 
 // Whether the words above the lowest are 0.
 fn is_low(d: Wide) -> bool
     ensures { LowIs d result }
 {
-    if d.w1 != 0 {
-        return false;
-    }
-    if d.w2 != 0 {
-        return false;
-    }
-    d.w3 == 0
+    d.w1 == 0 && d.w2 == 0 && d.w3 == 0
 }
 
 // Whether nothing of a rule but its table stands above the lowest word.
 fn is_lowest(m: WideMasks) -> bool
     ensures { LowestIs m result }
 {
-    if m.top > 63 {
-        return false;
-    }
-    let q = m.optional;
-    is_low(q)
+    m.top < 64 && is_low(m.optional)
 }
 
 // Fewer bytes are not worth a choice for the lowest word alone.
@@ -108,11 +77,7 @@ pub fn may_run_low(rule: &[u64], len: usize) -> bool
     requires { length rule.now ≡ rule_length }
     ensures { LowestIs (masks_of rule.now) result }
 {
-    if len < TINY {
-        return false;
-    }
-    let m = rule_part::masks_of(rule);
-    is_lowest(m)
+    TINY <= len && is_lowest(rule_part::masks_of(rule))
 }
 
 // The prefilter of a rule that stands in the lowest word.
@@ -166,11 +131,10 @@ pub fn fits_one(rule: &[u64], p: Prefilter) -> bool
     fits_one_by(&rule[0..1024], m, p, d)
 }
 
-// How to run otherwise: whether in parts, and then the prefilter of the lowest word; or all in four words.
+// How to run otherwise: in parts, by this prefilter of the lowest word; or all in four words.
 #[derive(Clone, Copy)]
 pub struct WidePrefilter {
-    pub filter: Prefilter,
-    pub parts: bool,
+    pub parts: Option<Prefilter>,
 }
 
 // A text of fewer bytes is not worth the room for parts.
@@ -181,20 +145,13 @@ fn choose_by(table: &[u64], m: WideMasks, len: usize) -> WidePrefilter
     requires { length table.now ≡ 1024 }
     ensures { WideSound table.now m result }
 {
-    if SHORT <= len {
-        if may_try_low(m) {
-            let one = low_masks(m, 63);
-            let p = prefilter::choose(&table[0..256], one.repeats, one.optional, one.top, len);
-            return WidePrefilter {
-                filter: p,
-                parts: true,
-            };
-        }
+    if len < SHORT || !may_try_low(m) {
+        return WidePrefilter { parts: None };
     }
-    let none = prefilter::no_prefilter();
+    let one = low_masks(m, 63);
+    let filter = prefilter::choose(&table[0..256], one.repeats, one.optional, one.top, len);
     WidePrefilter {
-        filter: none,
-        parts: false,
+        parts: Some(filter),
     }
 }
 

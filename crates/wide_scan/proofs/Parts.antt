@@ -1,6 +1,7 @@
 -- A run in parts, each by the lowest word alone where that is quiet: one law for each `return`. Assumes nothing.
 use mathlib.Core.Path.{◌≡◌, refl, sym, ap, subst, ◌∙◌}
-use mathlib.Core.Bool.{Bool, true, false, true≢false}
+use mathlib.Core.Bool.{Bool, true}
+use Rattle.std.specs.Prelude.{Option, None, Some}
 use mathlib.Core.List.{List, [], ◌∷◌, ◌++◌, append-nil}
 use Prim.Native.Nat.{ℕ, ◌+◌, ◌-◌, ◌≤◌}
 use native.Mathlib.Nat.{add-zero}
@@ -21,7 +22,6 @@ use Rattle.shift_and_wide.specs.declared.WideMasks.{WideMasks}
 use Rattle.shift_and_wide.specs.Wides.{low}
 use Rattle.shift_and_wide.specs.Stepping.{state_after_w, ends_in_w, wide_automaton_of}
 use Rattle.wide_scan.specs.declared.WideRun.{WideRun}
-use Rattle.wide_scan.specs.declared.Attempt.{Attempt}
 use Rattle.wide_scan.specs.Running.{WideStepped, AttemptIs, PartFits, PartIs, PartEnd}
 use Rattle.wide_prefilter.proofs.Ways.{low-top}
 use Rattle.wide_prefilter.specs.Choosing.{QuietIs, low_masks, LowSound}
@@ -35,22 +35,26 @@ length_none [] e = refl
 length_none (x ∷ xs) e = absurd (omega arith)
 
 pub alone-is : (t : List ℕ) (m : WideMasks) (d : Wide) (text room : List ℕ) (q : Bool) (one : Masks) (r : ScanResult) (room' : List ℕ) (y : Wide) (p : Prefilter)
-    → LowSound t m p → QuietIs d q → q ≡ true → one ≡ low_masks 63 m → Scanned (automaton_of (take 256 t) one) d.w0 0 text room r room' → y ≡ low r.d
-    → AttemptIs t m d text (record { done = eqb r.count 0; d = y }) room room'
-alone-is t m d text room q one r room' y p o i eq eo s ey =
+    → LowSound t m p → QuietIs d q → q ≡ true → one ≡ low_masks 63 m → Scanned (automaton_of (take 256 t) one) d.w0 0 text room r room' → y ≡ low r.d → eqb r.count 0 ≡ true
+    → AttemptIs t m d text (Some y) room room'
+alone-is t m d text room q one r room' y p o i eq eo s ey ez =
     let f = o.low in
     let k = i.says eq in
     let s' = subst (λ (x : Masks). Scanned (automaton_of (take 256 t) x) d.w0 0 text room r room') eo s in
-    let run : r.count ≡ 0 → (at : ℕ) → QuietRun t m d.w0 at text =
-    λ z at. quiet_run t m f.again f.free f.even f.above text d.w0 at 0 k.1 (length_none _ (omega (arith, s'.count))) in
+    let run : (at : ℕ) → QuietRun t m d.w0 at text =
+    λ at. quiet_run t m f.again f.free f.even f.above text d.w0 at 0 k.1 (length_none _ (omega (arith, s'.count, eqb-true r.count 0 ez))) in
+    let state : y ≡ state_after_w (wide_automaton_of t m) d text = ey ∙ ap low s'.state ∙ sym (run 0).state ∙ ap (λ (x : Wide). state_after_w (wide_automaton_of t m) x text) (sym k.0) in
     record {
-      state = λ e. ey ∙ ap low s'.state ∙ sym (run (eqb-true r.count 0 e) 0).state ∙ ap (λ (x : Wide). state_after_w (wide_automaton_of t m) x text) (sym k.0);
-      none = λ e at. ap (λ (x : Wide). ends_in_w (wide_automaton_of t m) x at text) k.0 ∙ (run (eqb-true r.count 0 e) at).ends;
+      state = λ x e. (cc);
+      none = λ x e at. ap (λ (x : Wide). ends_in_w (wide_automaton_of t m) x at text) k.0 ∙ (run at).ends;
       long = ap length s'.list ∙ length-sets room 0 (ends_in (automaton_of (take 256 t) (low_masks 63 m)) d.w0 0 text);
     }
 
-pub alone_not : (t : List ℕ) (m : WideMasks) (d : Wide) (text room : List ℕ) → AttemptIs t m d text (record { done = false; d = d }) room room
-alone_not t m d text room = record { state = λ e. absurd (true≢false (sym e)); none = λ e. absurd (true≢false (sym e)); long = refl }
+pub alone_not : (t : List ℕ) (m : WideMasks) (d : Wide) (text room room' : List ℕ) → length room' ≡ length room → AttemptIs t m d text None room room'
+alone_not t m d text room room' l = record { state = λ y e. absurd (none≢some e); none = λ y e. absurd (none≢some e); long = l }
+  where
+    none≢some : {y : Wide} → ◌≡◌ {A = Option Wide} None (Some y) → ⊥
+    none≢some e = cc
 
 -- ---- what the run of one word asks
 
@@ -63,13 +67,13 @@ planned-low t m p one e h = subst (λ (x : Masks). PrefilterSound (take 256 t) x
 
 -- ---- parts
 
-pub part-alone : (t : List ℕ) (m : WideMasks) (g : WideRun) (text ends room : List ℕ) (a : Attempt) (room' : List ℕ) → AttemptIs t m g.d text a room room' → a.done ≡ true
-    → PartIs t m g text ends room (record { d = a.d; at = g.at + length text; count = g.count }) ends room'
-part-alone t m g text ends room a room' x e =
-    let n = x.none e g.at in
+pub part-alone : (t : List ℕ) (m : WideMasks) (g : WideRun) (text ends room : List ℕ) (y : Wide) (room' : List ℕ) → AttemptIs t m g.d text (Some y) room room'
+    → PartIs t m g text ends room (record { d = y; at = g.at + length text; count = g.count }) ends room'
+part-alone t m g text ends room y room' x =
+    let n = x.none y refl g.at in
     record {
       steps = record {
-        state = x.state e;
+        state = x.state y refl;
         place = refl;
         count = rw n (sym (add-zero g.count));
         few = omega arith;

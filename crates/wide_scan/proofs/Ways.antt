@@ -1,11 +1,12 @@
 -- Which way a run takes: one law for each `return`. Assumes nothing.
 use mathlib.Core.Path.{◌≡◌, sym, subst}
-use mathlib.Core.Bool.{true}
 use mathlib.Core.List.{List}
 use Prim.Native.Nat.{ℕ, ◌+◌, ◌^◌, ◌≤◌, ◌<◌}
 use native.Mathlib.Omega.{arith}
 use lib.ListN.{length, take}
 use lib.Seq.{length-take-le}
+use Rattle.std.specs.Prelude.{Some}
+use Rattle.prefilter.specs.declared.Prefilter.{Prefilter}
 use Rattle.shift_and_wide.specs.declared.WideMasks.{WideMasks}
 use Rattle.shift_and_wide.specs.Stepping.{wide_automaton_of}
 use Rattle.wide_scan.specs.declared.WideRun.{WideRun}
@@ -16,9 +17,9 @@ use Rattle.wide_prefilter.proofs.Ways.{entries_long}
 
 -- ---- parts
 
-pub parts_fit : (t : List ℕ) (m : WideMasks) (p : WidePrefilter) (g : WideRun) (len listed : ℕ) → TextFits t m p → p.parts ≡ true → g.count + len ≤ listed → g.at + len < 2 ^ 32
-    → PartFits t m p.filter g len listed
-parts_fit t m p g len listed f w space fits = record { plan = f.planned.parts w; top = f.fits.top; space = space; fits = fits }
+pub parts_fit : (t : List ℕ) (m : WideMasks) (p : WidePrefilter) (filter : Prefilter) (g : WideRun) (len listed : ℕ) → TextFits t m p → p.parts ≡ Some filter → g.count + len ≤ listed → g.at + len < 2 ^ 32
+    → PartFits t m filter g len listed
+parts_fit t m p filter g len listed f w space fits = record { plan = f.planned.parts filter w; top = f.fits.top; space = space; fits = fits }
 
 -- ---- by the rule's part
 

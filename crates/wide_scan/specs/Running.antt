@@ -1,5 +1,5 @@
 -- What a run over some decoded bytes gives: the state after them, and the ends among them, by the formula on four words. Assumes nothing.
-use Rattle.std.specs.Prelude.{◌≡◌, List, [], true, ℕ, ◌+◌, ◌^◌, ◌≤◌, ◌<◌, length}
+use Rattle.std.specs.Prelude.{◌≡◌, List, [], ℕ, Option, Some, ◌+◌, ◌^◌, ◌≤◌, ◌<◌, length}
 use Rattle.std.proofs.lemmas.List.Edits.{sets}
 use Rattle.prefilter.specs.declared.Prefilter.{Prefilter}
 use Rattle.rule_part.specs.RulePart.{rule_length, entries_of, count_of, masks_of}
@@ -8,7 +8,6 @@ use Rattle.shift_and_wide.specs.declared.WideMasks.{WideMasks}
 use Rattle.shift_and_wide.specs.Stepping.{WideAutomaton, wide_automaton_of, WideTableFits, state_after_w, ends_in_w}
 use Rattle.wide_scan.specs.declared.WideResult.{WideResult}
 use Rattle.wide_scan.specs.declared.WideRun.{WideRun}
-use Rattle.wide_scan.specs.declared.Attempt.{Attempt}
 use Rattle.wide_prefilter.specs.declared.WidePrefilter.{WidePrefilter}
 use Rattle.wide_prefilter.specs.Choosing.{LowSound, WideSound}
 
@@ -30,10 +29,10 @@ pub record WideStepped (A : WideAutomaton) (g : WideRun) (text ends : List ℕ) 
 
 -- ---- the lowest word alone
 
--- `try_one_word`: where it says yes, the state after the bytes, among which there is no end; the room keeps its length
-pub record AttemptIs (t : List ℕ) (m : WideMasks) (d : Wide) (text : List ℕ) (r : Attempt) (room room' : List ℕ) : Type 0 where
-  pub state : r.done ≡ true → r.d ≡ state_after_w (wide_automaton_of t m) d text
-  pub none : r.done ≡ true → (at : ℕ) → ends_in_w (wide_automaton_of t m) d at text ≡ []
+-- `try_one_word`: where it gives a state, this is the state after the bytes, among which there is no end; the room keeps its length
+pub record AttemptIs (t : List ℕ) (m : WideMasks) (d : Wide) (text : List ℕ) (r : Option Wide) (room room' : List ℕ) : Type 0 where
+  pub state : (y : Wide) → r ≡ Some y → y ≡ state_after_w (wide_automaton_of t m) d text
+  pub none : (y : Wide) → r ≡ Some y → (at : ℕ) → ends_in_w (wide_automaton_of t m) d at text ≡ []
   pub long : length room' ≡ length room
 
 -- ---- parts

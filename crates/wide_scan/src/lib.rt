@@ -40,19 +40,16 @@ fn scan_words(
     let mut d = d;
     let mut at = base;
     let mut n = 0;
-    let mut i = 0;
-    while i < text.len() {
-        let c = byte_search::byte_index(text[i]);
-        let b = shift_and_wide::entry(table, c);
+    for &c in text {
+        let b = shift_and_wide::entry(table, usize::from(c));
         d = shift_and_wide::step(d, b, 1, m, x);
-        i += 1;
         at += 1;
         if shift_and_wide::accepts(d, m.top) {
             ends[n] = at;
             n += 1;
         }
     }
-    WideResult { d: d, count: n }
+    WideResult { d, count: n }
 }
 
 // Where a run stands: the states, the count of decoded bytes, and the count of ends that it has stored.
@@ -84,15 +81,8 @@ fn step_words(table: &[u64], m: WideMasks, g: WideRun, text: &[u8], ends: &mut [
     }
 }
 
-// Whether the lowest word alone did the run, and then the state after it. No end was met.
-#[derive(Drop)]
-pub struct Attempt {
-    pub done: bool,
-    pub d: Wide,
-}
-
 // Runs the lowest word alone, with 63 for its top position: if that reports nothing, no bit has left
-// the word. `room` takes what it reports, and is not read.
+// the word, and this is the state after the run, which met no end. `room` takes what it reports, and is not read.
 fn try_one_word(
     table: &[u64],
     m: WideMasks,
@@ -100,7 +90,7 @@ fn try_one_word(
     d: Wide,
     text: &[u8],
     room: &mut [u32],
-) -> Attempt
+) -> Option<Wide>
     requires low_sound { LowSound table.now m p }
     requires text_in_bounds { length text.now ≤ length room.old }
     requires text_len_bound { length text.now < 2 ^ 32 }
@@ -110,12 +100,11 @@ fn try_one_word(
         let one = wide_prefilter::low_masks(m, 63);
         let r = shift_and_scan::scan_text(&table[0..256], one, p, d.w0, 0, text, room);
         let none = r.count == 0;
-        return Attempt {
-            done: none,
-            d: wide_prefilter::low_of(r.d),
-        };
+        if none {
+            return Some(wide_prefilter::low_of(r.d));
+        }
     }
-    Attempt { done: false, d: d }
+    None
 }
 
 // As many bytes as a part has, and as one that is tried first.
@@ -158,18 +147,11 @@ fn step_part(
             wait: left,
         };
     }
-    let d = g.d;
-    let a = try_one_word(table, m, p, d, text, room);
-    if a.done {
-        let last = a.d;
+    if let Some(d) = try_one_word(table, m, p, g.d, text, room) {
         let at = g.at + text.len() as u32;
-        let quiet = WideRun {
-            d: last,
-            at: at,
-            count: g.count,
-        };
+        let count = g.count;
         return Part {
-            state: quiet,
+            state: WideRun { d, at, count },
             wait: 0,
         };
     }
@@ -237,14 +219,10 @@ fn step_by(
     requires text_bound { g.at + length text.now < 2 ^ 32 }
     ensures { WideStepped (wide_automaton_of table.now m) g text.now ends.old result ends.new }
 {
-    let filter = p.filter;
-    if p.parts {
-        if SHORT <= text.len() {
-            return step_parts(table, m, filter, g, text, ends);
-        }
-        return step_words(table, m, g, text, ends);
+    match p.parts {
+        Some(filter) if SHORT <= text.len() => step_parts(table, m, filter, g, text, ends),
+        _ => step_words(table, m, g, text, ends),
     }
-    step_words(table, m, g, text, ends)
 }
 
 // Steps over `text` in the way chosen, and stores its ends after those stored. Table and masks stay where they

@@ -1,4 +1,6 @@
 -- Laws on plain values; each function's own file only cites them.
+pub mod Numbers
+pub mod WideEntries
 pub mod WindowLaws
 pub mod VerifyLaws
 pub mod BackLaws

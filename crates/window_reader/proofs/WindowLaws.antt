@@ -5,14 +5,14 @@ use mathlib.Core.List.{List}
 use Prim.Native.Nat.{ℕ, zero, suc, ◌+◌, ◌-◌, ◌≤◌, ◌<◌}
 use native.Mathlib.Omega.{arith}
 use native.Mathlib.Decide.{dec_lt}
-use lib.ListN.{length, get_or, set, length-set}
-use lib.Seq.{get_or-set_same, get_or-set_other}
+use lib.ListN.{length, get_or}
 use lib.Dec.{eqb}
-use borrow.Author.Tests.{eq-eqb, ne_eqb, eqb-true, not-true, not-false}
+use borrow.Author.Tests.{eq-eqb, ne_eqb, not-true, not-false}
 use Rattle.model.proofs.Truth.{or_false_left, or_false_right}
 use Rattle.shift_and.specs.ForwardStep.{top_bit}
 use Rattle.shift_and.specs.Automaton.{Automaton, step_on, all_states}
-use Rattle.window_reader.specs.Reading.{step_at, seen_n, Window, LastByteStates, Unread, WindowIs, SurelyMisses}
+use Rattle.window_reader.specs.States.{EmptyIs, EntryWritten, LastByteStates}
+use Rattle.window_reader.specs.Reading.{step_at, seen_n, Window, Unread, WindowIs, SurelyMisses}
 
 module _ (A : Automaton) (text : List ℕ) (w d last : ℕ) where
   -- one turn of the definition
@@ -72,7 +72,8 @@ module _ (A : Automaton) (size : ℕ) (text : List ℕ) (w : ℕ) where
 -- ---- `window_shift`: the last byte, by the table of first steps
 
 -- what the table of first steps has for a byte
-pub last-byte-state : {A : Automaton} {first : List ℕ} {b d : ℕ} → LastByteStates A first → b < 256 → d ≡ get_or first b 0 → d ≡ step_on A 0 (all_states A) b
+pub last-byte-state : {A : Automaton} {words : ℕ} {entry : List ℕ → ℕ → ℕ} {first : List ℕ} {b d : ℕ} → LastByteStates A words entry first → b < 256 → d ≡ entry first b
+    → d ≡ step_on A 0 (all_states A) b
 last-byte-state {b = b} fs small e = e ∙ fs.is b small
 
 module _ (A : Automaton) (size : ℕ) (text : List ℕ) (w : ℕ) (f : Window size w (length text)) {b d : ℕ}
@@ -84,8 +85,11 @@ module _ (A : Automaton) (size : ℕ) (text : List ℕ) (w : ℕ) (f : Window si
       look_over A size text w (look_begun A size text w f) b d q (omega arith) (eb ∙ ap (λ (i : ℕ). get_or text i 0) k) stepped e
 
   module _ (n : size - 1 ≡ 0 → ⊥) where
-    pub first_emptied : d ≡ 0 → WindowIs A size text w (record { shift = size; hit = false })
+    first_emptied : d ≡ 0 → WindowIs A size text w (record { shift = size; hit = false })
     first_emptied z = look_emptied A size text w (look_begun A size text w f) (omega arith) eb stepped z
+
+    pub first-empty : {r : Bool} → EmptyIs d r → r ≡ true → WindowIs A size text w (record { shift = size; hit = false })
+    first-empty l e = first_emptied (l.none e)
 
     module _ (z : d ≡ 0 → ⊥) where
       pub first-begins : {q : Bool} → q ≡ top_bit A.top d → q ≡ true → Unread A size text w d (size - 1) (size - 1 - 1)
@@ -107,36 +111,37 @@ module _ (A : Automaton) (size : ℕ) (text : List ℕ) (w : ℕ) (f : Window si
             let at : w + (size - 1 - 1) ≡ w = omega arith in
             rw (or_false_right begins hit n) at (look_over A size text w k b' x hit (omega arith) (eb' ∙ ap (λ (i : ℕ). get_or text i 0) at) ex eh)
 
-    pub quiet_long : 2 ≤ size → (size - 1 - 1 ≡ 0 → ⊥) → SurelyMisses A size text w (not (begins || not (eqb x 0)))
-    quiet_long two e = record { says = λ y. go (not-true (begins || not (eqb x 0)) y) (dec_lt 0 d) }
+    pub quiet_long : 2 ≤ size → (size - 1 - 1 ≡ 0 → ⊥) → {dead : Bool} → EmptyIs x dead → SurelyMisses A size text w (not (begins || not dead))
+    quiet_long two e {dead} es = record { says = λ y. go (not-true (begins || not dead) y) (dec_lt 0 d) }
       where
-        go : (begins || not (eqb x 0)) ≡ false → Dec (0 < d) → WindowIs A size text w (record { shift = size; hit = false })
+        go : (begins || not dead) ≡ false → Dec (0 < d) → WindowIs A size text w (record { shift = size; hit = false })
         go n (no l) = first_emptied (λ z. omega arith) (omega arith)
         go n (yes l) =
-            let k = first-passed (λ z. omega arith) (λ z. omega arith) ebegins (or_false_left begins (not (eqb x 0)) n) in
-            let x0 : x ≡ 0 = eqb-true x 0 (not-false (eqb x 0) (or_false_right begins (not (eqb x 0)) n)) in
+            let k = first-passed (λ z. omega arith) (λ z. omega arith) ebegins (or_false_left begins (not dead) n) in
+            let x0 : x ≡ 0 = es.none (not-false dead (or_false_right begins (not dead) n)) in
             look_emptied A size text w k (omega arith) eb' ex x0
 
 -- ---- `last_byte_states`
 
-pub record Stepping (A : Automaton) (first : List ℕ) (n : ℕ) : Type 0 where
-  pub long : length first ≡ 256
+pub record Stepping (A : Automaton) (words : ℕ) (entry : List ℕ → ℕ → ℕ) (first : List ℕ) (n : ℕ) : Type 0 where
+  pub long : length first ≡ words
   pub few : n ≤ 256
-  pub is : (c : ℕ) → c < n → get_or first c 0 ≡ step_on A 0 (all_states A) c
+  pub is : (c : ℕ) → c < n → entry first c ≡ step_on A 0 (all_states A) c
 
-module _ (A : Automaton) where
-  pub firsts-begun : (first : List ℕ) → length first ≡ 256 → Stepping A first 0
+module _ (A : Automaton) (words : ℕ) (entry : List ℕ → ℕ → ℕ) where
+  pub firsts-begun : (first : List ℕ) → length first ≡ words → Stepping A words entry first 0
   firsts-begun first l = record { long = l; few = omega arith; is = λ c h. absurd (omega arith) }
 
-  module _ {first : List ℕ} {n : ℕ} (g : Stepping A first n) where
-    pub firsts-on : n < 256 → {d : ℕ} → d ≡ step_on A 0 (all_states A) n → Stepping A (set first n d) (n + 1)
-    firsts-on h {d} e = record { long = length-set first n d ∙ g.long; few = omega arith; is = λ c l. go c l (dec_lt c n) }
+  module _ {first : List ℕ} {n : ℕ} (g : Stepping A words entry first n) where
+    pub firsts-on : n < 256 → {a d : ℕ} → a ≡ all_states A → d ≡ step_on A 0 a n → {first' : List ℕ} → EntryWritten entry first n d first'
+        → Stepping A words entry first' (n + 1)
+    firsts-on h {a} {d} ea e {first'} w = record { long = w.long ∙ g.long; few = omega arith; is = λ c l. go c l (dec_lt c n) }
       where
-        go : (c : ℕ) → c < n + 1 → Dec (c < n) → get_or (set first n d) c 0 ≡ step_on A 0 (all_states A) c
-        go c l (yes p) = get_or-set_other first n c d 0 (omega arith) ∙ g.is c p
+        go : (c : ℕ) → c < n + 1 → Dec (c < n) → entry first' c ≡ step_on A 0 (all_states A) c
+        go c l (yes p) = w.elsewhere c (omega arith) (omega arith) ∙ g.is c p
         go c l (no p) =
             let q : c ≡ n = omega arith in
-            rw q (get_or-set_same first n d 0 (omega (arith, g.long)) ∙ e)
+            rw q (w.here ∙ e ∙ ap (λ (x : ℕ). step_on A 0 x n) ea)
 
-    pub firsts-over : 256 ≤ n → LastByteStates A first
+    pub firsts-over : 256 ≤ n → LastByteStates A words entry first
     firsts-over h = record { long = g.long; is = λ c l. g.is c (omega arith) }

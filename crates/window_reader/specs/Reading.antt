@@ -44,11 +44,6 @@ pub record Window (size w len : ℕ) : Type 0 where
   pub some : 1 ≤ size
   pub fits : w + size ≤ len
 
--- for each byte, the states after it from all states: what a window's last byte leaves
-pub record LastByteStates (A : Automaton) (first : List ℕ) : Type 0 where
-  pub long : length first ≡ 256
-  pub is : (c : ℕ) → c < 256 → get_or first c 0 ≡ step_on A 0 (all_states A) c
-
 -- Within window w the bytes j .. 1 are still to be read, and then byte 0: what they make of d and `last` is what the whole window makes of all states.
 pub record Unread (A : Automaton) (size : ℕ) (text : List ℕ) (w d last j : ℕ) : Type 0 where
   pub below : j < size

@@ -17,11 +17,10 @@ use Rattle.shift_and.specs.Automaton.{Automaton}
 use Rattle.window_reader.specs.declared.WindowResult.{WindowResult}
 use Rattle.window_reader.specs.Reading.{WindowIs, SurelyMisses, starts_back, RestFine, WrittenIs}
 use Rattle.window_reader.proofs.Reversed.{back-means}
-use Rattle.window_search.specs.declared.Rule.{Rule}
 use Rattle.window_search.specs.declared.Part.{Part}
 use Rattle.window_search.specs.declared.Tried.{Tried}
 use Rattle.window_search.specs.declared.Tried.TheVariants.{Start, Empty}
-use Rattle.window_search.specs.Searching.{spare, RuleFits, Mirrors, RuleOf, TryFits, TryMeans, TriedIs, LastByteAbsent, TriesIs, rest_starts, SkippedIs, Rest, PartIs, SearchFits, SearchedIs}
+use Rattle.window_search.specs.Searching.{spare, Mirrors, RuleOf, TryFits, TryMeans, TriedIs, LastByteAbsent, TriesIs, rest_starts, SkippedIs, Rest, PartIs, SearchFits, SearchedIs}
 use Rattle.window_search.proofs.Rests.{rest_all, rest_back, rest-move}
 use Rattle.window_search.proofs.Tries.{seen_shift, seen_missed, unknown_shift, unknown_missed}
 
@@ -132,9 +131,6 @@ pub record SearchProgress (F B : Automaton) (size : ℕ) (text l₀ l : List ℕ
   pub budget : spent ≤ 2 * w + spare
   pub long : length l ≡ length l₀
   pub rest : (ps : List Position) → RuleOf ps F B size → Rest ps text l₀ w count tried l
-
-pub rule-some : {forward reversed first : List ℕ} {rule : Rule} → RuleFits forward reversed first rule → 1 ≤ rule.shortest
-rule-some f = f.backs.some
 
 -- what an answer says of the shift
 module _ {F B : Automaton} {size : ℕ} {text : List ℕ} {w : ℕ} {x : Tried} (i : TriedIs F B size text w x) where

@@ -4,8 +4,7 @@ use mathlib.Core.Bool.{Bool, false}
 use mathlib.Core.List.{List}
 use Prim.Native.Nat.{ℕ, ◌+◌, ◌-◌, ◌*◌, ◌≤◌, ◌<◌}
 use native.Mathlib.Omega.{arith}
-use lib.Dec.{T, eqb}
-use borrow.Author.Tests.{eqb-true}
+use lib.Dec.{T}
 use lib.ListN.{length, get_or}
 use lib.Seq.{length-slice}
 use Rattle.model.specs.Occurrence.{Position, OccursAt, shortest, is_start}
@@ -18,6 +17,7 @@ use Rattle.shift_and.specs.Masks.{Encodes}
 use Rattle.window_reader.specs.declared.WindowResult.{WindowResult}
 use Rattle.window_reader.specs.declared.End.{End}
 use Rattle.window_reader.specs.declared.End.TheVariants.{At, Dead, Open}
+use Rattle.window_reader.specs.States.{EmptyIs}
 use Rattle.window_reader.specs.Reading.{Within, WindowIs, EndIs}
 use Rattle.window_reader.proofs.Shifts.{seen_means, unknown_means}
 use Rattle.window_reader.proofs.Ends.{Means, opened-means}
@@ -137,8 +137,8 @@ module _ (F B : Automaton) (size : ℕ) (text : List ℕ) (w : ℕ) (fits : w + 
 
 -- ---- `last_byte_absent`
 
-pub unknown_is : (reversed : List ℕ) (size : ℕ) (text : List ℕ) (w b : ℕ) → b ≡ get_or text (w + size - 1) 0 → LastByteAbsent (λ c. get_or reversed c 0) size text w (eqb (get_or reversed b 0) 0)
-unknown_is reversed size text w b e = record { says = λ t. rw e at (eqb-true (get_or reversed b 0) 0 t) }
+pub last_absent : (table : ℕ → ℕ) (size : ℕ) (text : List ℕ) (w b : ℕ) (r : Bool) → b ≡ get_or text (w + size - 1) 0 → EmptyIs (table b) r → LastByteAbsent table size text w r
+last_absent table size text w b r e z = record { says = λ t. rw e at (z.none t) }
 
 -- the last byte stands at no position
 module _ (ps : List Position) (B : Automaton) (size : ℕ) (text : List ℕ) (w : ℕ) (of : Mirrors ps B size) (fits : w + size ≤ length text)

@@ -7,33 +7,13 @@ use Rattle.model.specs.WindowSearch.{Inhabited, window_at, shift, windows_from, 
 use Rattle.model.specs.WindowSearch as WindowSearch
 use Rattle.shift_and.specs.Automaton.{Automaton}
 use Rattle.shift_and.specs.Masks.{Encodes}
-use Rattle.shift_and_step.specs.Stepping.{automaton_of, TableFits}
-use Rattle.window_reader.specs.Reading.{LastByteStates}
-use Rattle.window_search.specs.declared.Rule.{Rule}
 use Rattle.window_search.specs.declared.Tried.{Tried}
 use Rattle.window_search.specs.declared.Tried.TheVariants.{Start, Empty, Spent}
 use Rattle.window_search.specs.declared.Part.{Part}
 use Rattle.window_search.specs.declared.Found.{Found}
 use Rattle.answers.specs.declared.Span.{Span}
 
--- ---- a prepared rule
-
--- its automata: of the forward table, and of the reversed one
-abbrev pub onward_of : (forward : List ℕ) → Rule → Automaton
-onward_of forward rule = automaton_of forward rule.forward
-
-abbrev pub backward_of : (reversed : List ℕ) → Rule → Automaton
-backward_of reversed rule = automaton_of reversed rule.reversed
-
-pub record BackFits (reversed first : List ℕ) (rule : Rule) : Type 0 where
-  pub back : TableFits reversed rule.reversed
-  pub firsts : LastByteStates (backward_of reversed rule) first
-  pub some : 1 ≤ rule.shortest
-  pub small : rule.shortest < 2 ^ 32
-
-pub record RuleFits (forward reversed first : List ℕ) (rule : Rule) : Type 0 where
-  pub on : TableFits forward rule.forward
-  pub backs : BackFits reversed first rule
+-- ---- a prepared rule: its automata for each direction, and its shortest length
 
 -- They are the automata of the positions, for each direction.
 pub record Mirrors (ps : List Position) (B : Automaton) (size : ℕ) : Type 0 where

@@ -1,11 +1,6 @@
--- What the loop of `first_in_block` keeps, and what falls.
-use Prim.Native.Nat.{◌-◌}
-use Rattle.byte_search.proofs.BlockLaws.{Nearest}
-use Rattle.byte_search.specs.BlockTests.{same}
+-- What the loop of `first_in_block` keeps: none of the lanes tried before the nearest one passes.
+use Rattle.std.proofs.Common.{ℕ, ◌+◌, ◌<◌, ◌≤◌, false}
 use Rattle.byte_search.proofs.first_in_block.Given as goal
 
 abbrev pub invariant-loop-j : goal.invariant-loop-j
-invariant-loop-j l = Nearest (same l.text l.x) l.i l.f l.j
-
-abbrev pub decreases-loop-j : goal.decreases-loop-j
-decreases-loop-j l = 64 - l.j
+invariant-loop-j g l = (l.first ≤ g.row.N) × ((k : ℕ) → l.i ≤ k → k < l.i + l.j → k < l.i + l.first → goal.F-post g l.test k false)

@@ -1,15 +1,13 @@
 -- The goals of `has_byte` that want a law of this crate.
-use Rattle.code_list.proofs.CodeLists.{none-begun, byte_there, none-on, none_there}
+use Rattle.std.proofs.Common.{rules, tests, refl}
+use Rattle.std.proofs.lemmas.Iterator.{YieldsList-from_range}
+use Rattle.std.proofs.lemmas.Iterator.Search.{any_from_yields_List}
+use Rattle.model.specs.Codes.{in_set}
+use Rattle.code_list.proofs.CodeLists.{some_any}
 use Rattle.code_list.proofs.has_byte.Goals as goal
 
-pub loop-x-init : goal.loop-x-init
-loop-x-init c = search none-begun
-
-pub returns-then-in_set : goal.returns-then-in_set
-returns-then-in_set c = search byte_there
-
-pub loop-x-preserved : goal.loop-x-preserved
-loop-x-preserved c = search none-on
-
 pub returns : goal.returns
-returns c = search none_there
+returns c =
+    let set = c.args.set.now in
+    some_any set 256 _
+    (any_from_yields_List (in_set set) _ _ _ c.any.ensures.ran (YieldsList-from_range 0 256 256 refl refl) (λ x b q k. search (rules, tests)))

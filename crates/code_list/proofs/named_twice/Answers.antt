@@ -1,15 +1,9 @@
 -- The goals of `named_twice` that want a law of this crate.
-use Rattle.code_list.proofs.CodeLists.{twice_begun, twice_named, twice_on, twice_none}
+use Rattle.code_list.proofs.CodeLists.{twice_here, twice_later}
 use Rattle.code_list.proofs.named_twice.Goals as goal
 
-pub loop-i-init : goal.loop-i-init
-loop-i-init c = search twice_begun
+pub returns-then-contains : goal.returns-then-contains
+returns-then-contains c = twice_here c.args.codes.now c.loop-code.rest.now _ _ c.in-Some.ensures.cases.0 c.loop-code.invariant _ c.contains.ensures.value c.if-contains.true
 
-pub returns-then-names : goal.returns-then-names
-returns-then-names c = search twice_named
-
-pub loop-i-preserved : goal.loop-i-preserved
-loop-i-preserved c = search twice_on
-
-pub returns : goal.returns
-returns c = search twice_none
+pub loop-code-preserved : goal.loop-code-preserved
+loop-code-preserved c = twice_later c.args.codes.now c.loop-code.rest.now _ _ c.in-Some.ensures.cases.0 c.loop-code.invariant _ c.contains.ensures.value c.if-contains.false

@@ -1,11 +1,7 @@
--- What the loop of `sets_wrong` keeps, and what falls.
-use Prim.Native.Nat.{◌-◌}
-use lib.ListN.{length}
+-- What the loop of `sets_wrong` keeps.
+use Rattle.std.proofs.Common.{length}
 use Rattle.code_list.proofs.CodeLists.{Judging}
 use Rattle.code_list.proofs.sets_wrong.Given as goal
 
-abbrev pub invariant-loop-k : goal.invariant-loop-k
-invariant-loop-k l = Judging l.codes l.sets l.k l.at
-
-abbrev pub decreases-loop-k : goal.decreases-loop-k
-decreases-loop-k l = length l.codes - l.k
+abbrev pub invariant-loop-set : goal.invariant-loop-set
+invariant-loop-set l = Judging l.codes l.sets (length l.yielded) l.set-iterator

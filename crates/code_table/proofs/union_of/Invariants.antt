@@ -1,10 +1,6 @@
--- What the loop of `union_of` keeps, and what falls.
-use Prim.Native.Nat.{◌-◌}
+-- What the loop of `union_of` keeps.
 use Rattle.code_table.proofs.FitLaws.{Uniting}
 use Rattle.code_table.proofs.union_of.Given as goal
 
 abbrev pub invariant-loop-x : goal.invariant-loop-x
 invariant-loop-x l = Uniting l.plane l.set l.union l.x
-
-abbrev pub decreases-loop-x : goal.decreases-loop-x
-decreases-loop-x l = 256 - l.x

@@ -8,8 +8,8 @@ bounds-out-at c = search put_first
 pub bounds-out-end : goal.bounds-out-end
 bounds-out-end c = search put_second
 
-pub returns-then-x : goal.returns-then-x
-returns-then-x c = search put_two
-
 pub returns : goal.returns
-returns c = search put_one
+returns c = search put_two
+
+pub returns-in_default : goal.returns-in_default
+returns-in_default c = search put_one

@@ -5,8 +5,8 @@ use Rattle.like_importer.proofs.read_pattern.Goals as goal
 pub loop-at-init : goal.loop-at-init
 loop-at-init c = search measure_begun
 
-pub returns-in-Misspelt : goal.returns-in-Misspelt
-returns-in-Misspelt c = search measure_bad
+pub returns-in_default : goal.returns-in_default
+returns-in_default c = search measure_bad
 
 pub add_item-m-requires : goal.add_item-m-requires
 add_item-m-requires c = search measure_addable

@@ -5,8 +5,8 @@ use Rattle.like_importer.proofs.write.Goals as goal
 pub loop-at-init : goal.loop-at-init
 loop-at-init c = search write_begun
 
-pub returns-in-Misspelt : goal.returns-in-Misspelt
-returns-in-Misspelt c = search write_never
+pub returns-in_default : goal.returns-in_default
+returns-in_default c = search write_never
 
 pub put_item-end-requires : goal.put_item-end-requires
 put_item-end-requires c = search write_room

@@ -1,12 +1,12 @@
--- The goals of `blend` that want a law of this crate.
-use Rattle.literal_run.proofs.Blocks.{fill_begun, mix_on, mix_over}
+-- The goal of `blend` that wants a law.
+use Rattle.std.proofs.Common.{rules}
+use Rattle.literal_run.proofs.Blocks.{mix_new, mix_old}
 use Rattle.literal_run.proofs.blend.Goals as goal
-
-pub loop-j-init : goal.loop-j-init
-loop-j-init c = search fill_begun
+use Rattle.literal_run.proofs.blend.Goals.{then-j-n, else-j-n}
 
 pub loop-j-preserved : goal.loop-j-preserved
-loop-j-preserved c = search mix_on
-
-pub returns : goal.returns
-returns c = search mix_over
+loop-j-preserved c =
+    elim c.if-j-n.branch [
+      | then-j-n w ↦ rw w.block-is (search (rules, mix_new))
+      | else-j-n w ↦ rw w.block-is (search (rules, mix_old))
+    ]

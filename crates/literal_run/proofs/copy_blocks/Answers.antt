@@ -1,15 +1,10 @@
--- The goals of `copy_blocks` that want a law of this crate.
-use Rattle.literal_run.proofs.LiteralLaws.{blocks_begun, copy_block, blocks_copied}
+-- The goal of `copy_blocks` that wants a law.
+use Rattle.std.proofs.Common.{rules}
+use Rattle.byte_search.proofs.BlockLaws.{none_before}
+use Rattle.literal_run.proofs.LiteralLaws.{copy_block}
 use Rattle.literal_run.proofs.copy_blocks.Goals as goal
 
-pub loop-i-init : goal.loop-i-init
-loop-i-init c = search blocks_begun
-
-pub returns-then-block_has_amp : goal.returns-then-block_has_amp
-returns-then-block_has_amp c = search blocks_copied
-
 pub loop-i-preserved : goal.loop-i-preserved
-loop-i-preserved c = search copy_block
-
-pub returns : goal.returns
-returns c = search blocks_copied
+loop-i-preserved c =
+    copy_block c.args.raw.now 0 c.args.out.now c.loop-i.invariant (search rules)
+    (none_before (c.any_in_block.ensures (search rules)) (λ j h q. search rules)) c.copy_block.new.out c.copy_block.ensures

@@ -1,5 +1,5 @@
 -- The goals of `decode_amp` that want a law of this crate.
-use Rattle.piece_decoder.proofs.TokenLaws.{code_fits, code-after, code-end, token-decoded, token_literal, token_incomplete}
+use Rattle.piece_decoder.proofs.TokenLaws.{code_fits, code-after, token-decoded, token_literal, token_incomplete}
 use borrow.Author.Rules.{rules}
 use Rattle.piece_decoder.proofs.decode_amp.Goals as goal
 
@@ -8,9 +8,6 @@ put_utf8-n-requires c = search code_fits
 
 pub overflow_add-after : goal.overflow_add-after
 overflow_add-after c = search (code-after, rules)
-
-pub overflow_add-end : goal.overflow_add-end
-overflow_add-end c = search code-end
 
 pub returns-in-Decoded : goal.returns-in-Decoded
 returns-in-Decoded c = search token-decoded

@@ -1,10 +1,6 @@
--- What the loop of `load` keeps, and what falls.
-use Prim.Native.Nat.{◌-◌}
+-- What the loop of `load` keeps.
 use Rattle.plan_part.proofs.Fields.{Loading}
 use Rattle.plan_part.proofs.load.Given as goal
 
 abbrev pub invariant-loop-j : goal.invariant-loop-j
 invariant-loop-j l = Loading l.part l.t l.n l.j
-
-abbrev pub decreases-loop-j : goal.decreases-loop-j
-decreases-loop-j l = l.n - l.j

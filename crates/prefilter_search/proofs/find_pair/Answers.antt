@@ -1,9 +1,7 @@
--- The goals of `find_pair` that want a law of this crate.
-use Rattle.byte_search.proofs.BlockLaws.{miss_first, miss_first_then}
+-- The goal of `find_pair` that wants a law.
+use Rattle.std.proofs.Common.{rules}
+use Rattle.byte_search.proofs.BlockLaws.{none_before}
 use Rattle.prefilter_search.proofs.find_pair.Goals as goal
 
-pub returns-then-j-i-lt64 : goal.returns-then-j-i-lt64
-returns-then-j-i-lt64 c = search miss_first
-
 pub returns : goal.returns
-returns c = search miss_first_then
+returns c = none_before c.find.ensures (λ j h q. search rules)

@@ -1,13 +1,11 @@
--- The goals of `first_candidate` that want a law of this crate.
-use Rattle.byte_search.proofs.BlockLaws.{near-begun, near-over}
-use Rattle.reference_search.proofs.CandidateLaws.{amp-near}
+-- The goals of `first_candidate` that want a law.
+use Rattle.std.proofs.Common.{rules}
+use Rattle.byte_search.proofs.BlockLaws.{none_before}
+use Rattle.reference_search.proofs.CandidateLaws.{no_amp}
 use Rattle.reference_search.proofs.first_candidate.Goals as goal
 
-pub loop-j-init : goal.loop-j-init
-loop-j-init c = near-begun _ _
-
-pub loop-j-preserved : goal.loop-j-preserved
-loop-j-preserved c = search amp-near
+pub returns-then-is_candidate : goal.returns-then-is_candidate
+returns-then-is_candidate c = none_before c.first_in_block-j.ensures (λ j h q. no_amp c.args.text.now j (search rules))
 
 pub returns : goal.returns
-returns c = search near-over
+returns c = none_before c.first_in_block.ensures (λ j h q. search rules)

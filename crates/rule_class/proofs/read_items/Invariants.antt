@@ -4,8 +4,8 @@ use Prim.Native.Nat.{◌-◌}
 use Rattle.rule_class.proofs.Ends.{Reading}
 use Rattle.rule_class.proofs.read_items.Given as goal
 
-abbrev pub invariant-loop-lo : goal.invariant-loop-lo
-invariant-loop-lo l = Reading l.rule l.from l.set l.at
+abbrev pub invariant-loop-low : goal.invariant-loop-low
+invariant-loop-low l = Reading l.rule l.from l.set.words l.at
 
-abbrev pub decreases-loop-lo : goal.decreases-loop-lo
-decreases-loop-lo l = length l.rule - l.at
+abbrev pub decreases-loop-low : goal.decreases-loop-low
+decreases-loop-low l = length l.rule - l.at

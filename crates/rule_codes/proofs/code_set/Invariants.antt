@@ -1,11 +1,6 @@
--- What the loop of `code_set` keeps, and what falls.
-use Prim.Native.Nat.{◌-◌}
-use lib.ListN.{length}
+-- What the loop of `code_set` keeps.
 use Rattle.rule_codes.proofs.CodeSets.{Adding}
 use Rattle.rule_codes.proofs.code_set.Given as goal
 
-abbrev pub invariant-loop-i : goal.invariant-loop-i
-invariant-loop-i l = Adding l.codes l.set l.i
-
-abbrev pub decreases-loop-i : goal.decreases-loop-i
-decreases-loop-i l = length l.codes - l.i
+abbrev pub invariant-loop-code : goal.invariant-loop-code
+invariant-loop-code l = Adding l.codes l.set.words l.code-index

@@ -1,24 +1,28 @@
 -- The goals of `read_bounds` that want a law of this crate.
-use Rattle.rule_gap.proofs.GapLaws.{gap_bare, gap_comma, gap_bare_2, gap_brace, gap_reversed, gap_zero, gap-good}
+use Rattle.std.proofs.Common.{arith}
+use Rattle.std.proofs.lemmas.Grind.{common_steps}
+use Rattle.rule_gap.proofs.GapLaws.{no_least, no_comma, no_most, no_brace, reversed, zero_most, gap-good}
 use Rattle.rule_gap.proofs.read_bounds.Goals as goal
 
-pub returns-then-comma-first : goal.returns-then-comma-first
-returns-then-comma-first c = search gap_bare
+pub returns-in_err-least : goal.returns-in_err-least
+returns-in_err-least c = rw c.from_residual.ensures (no_least _ _ c.in_err-least.ensures)
 
-pub returns-then-byte_or_zero-ne44 : goal.returns-then-byte_or_zero-ne44
-returns-then-byte_or_zero-ne44 c = search gap_comma
+pub returns-then-ne : goal.returns-then-ne
+returns-then-ne c = no_comma _ _ _ c.in_ok-least.ensures (grind (arith, common_steps))
 
-pub returns-then-brace-second : goal.returns-then-brace-second
-returns-then-brace-second c = search gap_bare_2
+pub returns-in_err-most : goal.returns-in_err-most
+returns-in_err-most c = rw c.from_residual-in_err-most.ensures (no_most _ _ _ c.in_ok-least.ensures (grind (arith, common_steps)) c.in_err-most.ensures)
 
-pub returns-then-byte_or_zero-ne125 : goal.returns-then-byte_or_zero-ne125
-returns-then-byte_or_zero-ne125 c = search gap_brace
+pub returns-then-ne-2 : goal.returns-then-ne-2
+returns-then-ne-2 c = no_brace _ _ _ c.in_ok-least.ensures (grind (arith, common_steps)) _ c.in_ok-most.ensures (grind (arith, common_steps))
 
-pub returns-then-b-a : goal.returns-then-b-a
-returns-then-b-a c = search gap_reversed
+pub returns-then-most-least : goal.returns-then-most-least
+returns-then-most-least c = reversed _ _ _ c.in_ok-least.ensures (grind (arith, common_steps)) _ c.in_ok-most.ensures (grind (arith, common_steps)) c.if-most-least.true
 
-pub returns-then-b-eq0 : goal.returns-then-b-eq0
-returns-then-b-eq0 c = search gap_zero
+pub returns-then-most-eq0 : goal.returns-then-most-eq0
+returns-then-most-eq0 c =
+    zero_most _ _ _ c.in_ok-least.ensures (grind (arith, common_steps)) _ c.in_ok-most.ensures (grind (arith, common_steps)) c.if-most-least.false c.if-most-eq0.true
 
 pub returns : goal.returns
-returns c = search gap-good
+returns c =
+    gap-good _ _ _ c.in_ok-least.ensures (grind (arith, common_steps)) _ c.in_ok-most.ensures (grind (arith, common_steps)) c.if-most-least.false c.if-most-eq0.false

@@ -1,9 +1,9 @@
--- The goals of `scan_literals` that want a law of this crate.
-use Rattle.scan_pairs.proofs.Scans.{even-fits, even-ran}
+-- The goals of `scan_literals` that want a law.
+use Rattle.piece_stepping.proofs.Steps.{even-fits, even-ran}
 use Rattle.scan_pairs.proofs.scan_literals.Goals as goal
 
 pub pair_evenly-requires : goal.pair_evenly-requires
-pair_evenly-requires c = search even-fits
+pair_evenly-requires g c = search even-fits
 
 pub returns : goal.returns
-returns c = search even-ran
+returns g c = search even-ran

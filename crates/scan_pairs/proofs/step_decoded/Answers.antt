@@ -1,13 +1,6 @@
--- The goals of `step_decoded` that want a law of this crate.
-use mathlib.Core.Path.{refl}
-use Rattle.piece_stepping.proofs.Steps.{stored_laid, stepped_laid}
-use borrow.Author.Rules.{rules}
+-- The goals of `step_decoded` that want a law.
+use Rattle.piece_stepping.proofs.Steps.{stepped_laid}
 use Rattle.scan_pairs.proofs.step_decoded.Goals as goal
 
-pub overflow_add-stored : goal.overflow_add-stored
-overflow_add-stored c = let x = c.scan_decoded-r.ensures in
-    let h = stored_laid _ _ _ _ c.args.text.now c.requires.space refl x.few in
-    search (h, rules)
-
 pub returns : goal.returns
-returns c = search stepped_laid
+returns g c = search stepped_laid

@@ -1,16 +1,9 @@
--- The goals of `step_chunk` that want a law of this crate.
-use Rattle.piece_stepping.proofs.Pieces.{chunk_space, chunk_fits, chunk_moves, chunk_read, chunk_raw, room-stepped}
-use borrow.Author.Rules.{rules}
+-- The goals of `step_chunk` that want a law.
+use Rattle.piece_stepping.proofs.Pieces.{chunk_fits, room-stepped}
 use Rattle.scan_piece.proofs.step_chunk.Goals as goal
 
-pub overflow_sub-took : goal.overflow_sub-took
-overflow_sub-took c = search (chunk_moves, rules)
-
-pub overflow_cast-took : goal.overflow_cast-took
-overflow_cast-took c = search (chunk_read, rules)
-
-pub step_decoded-s-requires : goal.step_decoded-s-requires
-step_decoded-s-requires c = search (rules, chunk_space, chunk_fits, chunk_raw)
+pub step_decoded-state-requires-clause-laid_fits : goal.step_decoded-state-requires-clause-laid_fits
+step_decoded-state-requires-clause-laid_fits g c = search chunk_fits
 
 pub returns : goal.returns
-returns c = search room-stepped
+returns g c = search room-stepped

@@ -1,18 +1,10 @@
 -- The goals of `span` that want a law of this crate.
-use Rattle.text_show.proofs.Shows.{shown-refused, shown-long, shown-past, shown-ready, shown-done}
+use Rattle.std.proofs.lemmas.Result.{MatchResult-at_ok, MatchResult-at_err}
+use Rattle.text_show.proofs.Shows.{shown-refused}
 use Rattle.text_show.proofs.span.Goals as goal
 
-pub returns-then-p-ne0 : goal.returns-then-p-ne0
-returns-then-p-ne0 c = search shown-refused
+pub span_prepared-requires : goal.span_prepared-requires
+span_prepared-requires c = MatchResult-at_ok _ _ _ c.in-Ok.is c.prepare.ensures
 
-pub returns-then-len-gt-TEXT_LIMIT : goal.returns-then-len-gt-TEXT_LIMIT
-returns-then-len-gt-TEXT_LIMIT c = search shown-long
-
-pub returns-then-start-len : goal.returns-then-start-len
-returns-then-start-len c = search shown-past
-
-pub span_accepted-requires : goal.span_accepted-requires
-span_accepted-requires c = search shown-ready
-
-pub returns : goal.returns
-returns c = search shown-done
+pub returns-in-Err : goal.returns-in-Err
+returns-in-Err c = shown-refused _ _ _ _ _ (MatchResult-at_err _ _ _ c.in-Err.is c.prepare.ensures)

@@ -7,8 +7,8 @@ use Rattle.text_show.proofs.span_low.Goals as goal
 pub fill_plane-requires : goal.fill_plane-requires
 fill_plane-requires c = search shown-low-fillable
 
-pub part_from-requires : goal.part_from-requires
-part_from-requires c = search (rules, shown-low-fits)
+pub new-reader-requires : goal.new-reader-requires
+new-reader-requires c = search (rules, shown-low-fits)
 
 pub returns : goal.returns
 returns c = search (part-low-shown, bytes_known)

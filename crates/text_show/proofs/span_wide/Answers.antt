@@ -7,8 +7,8 @@ use Rattle.text_show.proofs.span_wide.Goals as goal
 pub fill-requires : goal.fill-requires
 fill-requires c = search shown-fillable
 
-pub part_from-requires : goal.part_from-requires
-part_from-requires c = search (rules, shown-fits)
+pub new-reader-requires : goal.new-reader-requires
+new-reader-requires c = search (rules, shown-fits)
 
 pub returns : goal.returns
 returns c = search (part-shown, bytes_known)

@@ -1,11 +1,7 @@
--- What the loop of `copy_tail` keeps, and what falls.
-use Rattle.text_writer.proofs.WriteLaws.{TailInvariant}
-use Prim.Native.Nat.{◌-◌}
-use lib.ListN.{length}
+-- What the loop of `copy_tail` keeps: so many bytes of the tail are copied.
+use Rattle.std.proofs.Common.{◌≡◌}
+use lib.Seq.{paste}
 use Rattle.text_writer.proofs.copy_tail.Given as goal
 
 abbrev pub invariant-loop-i : goal.invariant-loop-i
-invariant-loop-i l = TailInvariant l.raw l.from l.initial.out l.at l.out l.i l.end
-
-abbrev pub decreases-loop-i : goal.decreases-loop-i
-decreases-loop-i l = length l.raw - l.i
+invariant-loop-i l = l.out ≡ paste l.initial.out l.at l.tail l.i

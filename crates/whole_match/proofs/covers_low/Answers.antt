@@ -5,8 +5,8 @@ use Rattle.whole_match.proofs.covers_low.Goals as goal
 pub fill_plane-requires : goal.fill_plane-requires
 fill_plane-requires c = search cover_low-fillable
 
-pub reads_low-requires : goal.reads_low-requires
-reads_low-requires c = search cover_low-fits
+pub new-reader-requires : goal.new-reader-requires
+new-reader-requires c = search cover_low-fits
 
 pub returns : goal.returns
 returns c = search low-covers

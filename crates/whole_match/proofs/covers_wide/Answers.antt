@@ -5,8 +5,8 @@ use Rattle.whole_match.proofs.covers_wide.Goals as goal
 pub fill-requires : goal.fill-requires
 fill-requires c = search cover_fillable
 
-pub reads_wide-requires : goal.reads_wide-requires
-reads_wide-requires c = search cover_fits
+pub new-reader-requires : goal.new-reader-requires
+new-reader-requires c = search cover_fits
 
 pub returns : goal.returns
 returns c = search wide-covers

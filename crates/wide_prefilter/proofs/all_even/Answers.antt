@@ -1,12 +1,10 @@
 -- The goals of `all_even` that want a law of this crate.
-use Rattle.wide_prefilter.proofs.Ways.{even-begun, even-next, even-over}
+use Rattle.std.proofs.Common.{◌≡◌, rules, bit_or}
+use Rattle.std.specs.List.{fold}
+use Rattle.wide_prefilter.proofs.Ways.{even-over}
 use Rattle.wide_prefilter.proofs.all_even.Goals as goal
 
-pub loop-c-init : goal.loop-c-init
-loop-c-init c = search even-begun
-
-pub loop-c-preserved : goal.loop-c-preserved
-loop-c-preserved c = search even-next
-
 pub returns : goal.returns
-returns c = search even-over
+returns c =
+    let e : c.fold.result ≡ fold bit_or 0 c.args.plane.now = search rules in
+    search even-over

@@ -2,5 +2,5 @@
 use Rattle.wide_scan.proofs.Parts.{part-alone}
 use Rattle.wide_scan.proofs.step_part.Goals as goal
 
-pub returns-then-a : goal.returns-then-a
-returns-then-a c = search part-alone
+pub returns-in-Some : goal.returns-in-Some
+returns-in-Some c = let f = rw c.in-Some.is at c.try_one_word.ensures in search (part-alone, f)

@@ -3,13 +3,13 @@ use Rattle.window_reader.proofs.BackLaws.{count-begun, counted, count-passed, co
 use Rattle.window_reader.proofs.count_back.Goals as goal
 
 pub loop-j-init : goal.loop-j-init
-loop-j-init c = search count-begun
+loop-j-init g c = search count-begun
 
 pub loop-j-preserved-then-accepts : goal.loop-j-preserved-then-accepts
-loop-j-preserved-then-accepts c = search counted
+loop-j-preserved-then-accepts g c = search counted
 
 pub loop-j-preserved : goal.loop-j-preserved
-loop-j-preserved c = search count-passed
+loop-j-preserved g c = search count-passed
 
 pub returns : goal.returns
-returns c = search count-over
+returns g c = search count-over

@@ -3,10 +3,10 @@ use Rattle.window_reader.proofs.WindowLaws.{firsts-begun, firsts-on, firsts-over
 use Rattle.window_reader.proofs.last_byte_states.Goals as goal
 
 pub loop-c-init : goal.loop-c-init
-loop-c-init c = search firsts-begun
+loop-c-init g c = search firsts-begun
 
 pub loop-c-preserved : goal.loop-c-preserved
-loop-c-preserved c = search firsts-on
+loop-c-preserved g c = search firsts-on
 
 pub returns : goal.returns
-returns c = search firsts-over
+returns g c = search firsts-over

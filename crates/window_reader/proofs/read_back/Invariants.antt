@@ -1,10 +1,7 @@
--- What the loop of `read_back` keeps, and what falls.
-use Rattle.shift_and_step.specs.Stepping.{automaton_of}
+-- What the loop of `read_back` keeps.
+use Prim.Native.Nat.{◌-◌}
 use Rattle.window_reader.specs.Reading.{Unread}
 use Rattle.window_reader.proofs.read_back.Given as goal
 
-abbrev pub invariant-loop-j : goal.invariant-loop-j
-invariant-loop-j l = Unread (automaton_of l.reversed l.m) l.size l.text l.w l.d l.last l.j
-
-abbrev pub decreases-loop-j : goal.decreases-loop-j
-decreases-loop-j l = l.j
+abbrev pub invariant-loop-i : goal.invariant-loop-i
+invariant-loop-i g l = Unread (g.R.Reader.automaton l.reversed) l.size l.text l.w (g.R.State.States.number l.d) l.last (l.i - 1)

@@ -3,7 +3,7 @@ use Rattle.window_reader.proofs.WindowLaws.{quiet_pair, quiet_long, last-byte-st
 use Rattle.window_reader.proofs.surely_misses.Goals as goal
 
 pub returns-then-i-eq0 : goal.returns-then-i-eq0
-returns-then-i-eq0 c = search (quiet_pair, last-byte-state)
+returns-then-i-eq0 g c = search (quiet_pair, last-byte-state)
 
 pub returns : goal.returns
-returns c = search (quiet_long, last-byte-state)
+returns g c = search (quiet_long, last-byte-state)

@@ -3,31 +3,31 @@ use Rattle.window_reader.proofs.BackLaws.{write_begun, more-place, more_within, 
 use Rattle.window_reader.proofs.write_back.Goals as goal
 
 pub loop-p-init : goal.loop-p-init
-loop-p-init c = search write_begun
+loop-p-init g c = search write_begun
 
 pub overflow_sub-j : goal.overflow_sub-j
-overflow_sub-j c = search more-place
+overflow_sub-j g c = search more-place
 
 pub bounds-text-j : goal.bounds-text-j
-bounds-text-j c = search more_within
+bounds-text-j g c = search more_within
 
 pub overflow_sub-p : goal.overflow_sub-p
-overflow_sub-p c = search above
+overflow_sub-p g c = search above
 
 pub bounds-starts-p : goal.bounds-starts-p
-bounds-starts-p c = search inside
+bounds-starts-p g c = search inside
 
 pub loop-p-smaller-then-accepts : goal.loop-p-smaller-then-accepts
-loop-p-smaller-then-accepts c = search more_less
+loop-p-smaller-then-accepts g c = search more_less
 
 pub loop-p-preserved-then-accepts : goal.loop-p-preserved-then-accepts
-loop-p-preserved-then-accepts c = search wrote
+loop-p-preserved-then-accepts g c = search wrote
 
 pub loop-p-smaller : goal.loop-p-smaller
-loop-p-smaller c = search more_less
+loop-p-smaller g c = search more_less
 
 pub loop-p-preserved : goal.loop-p-preserved
-loop-p-preserved c = search write_passed
+loop-p-preserved g c = search write_passed
 
 pub returns : goal.returns
-returns c = search write_over
+returns g c = search write_over

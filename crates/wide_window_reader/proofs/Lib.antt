@@ -1,3 +1,0 @@
--- Laws on plain values; each function's own file only cites them.
-pub mod Numbers
-pub mod FirstLaws

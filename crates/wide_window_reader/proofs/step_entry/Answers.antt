@@ -1,6 +1,0 @@
--- The goals of `step_entry` that want a law of this crate.
-use Rattle.wide_window_reader.proofs.Numbers.{step_is}
-use Rattle.wide_window_reader.proofs.step_entry.Goals as goal
-
-pub returns : goal.returns
-returns c = search step_is

@@ -1,6 +1,0 @@
--- The goals of `step_on` that want a law of this crate.
-use Rattle.wide_window_reader.proofs.Numbers.{step_on-is}
-use Rattle.wide_window_reader.proofs.step_on.Goals as goal
-
-pub returns : goal.returns
-returns c = search step_on-is

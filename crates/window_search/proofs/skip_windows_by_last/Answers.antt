@@ -1,9 +1,0 @@
--- The goals of `skip_windows_by_last` that want a law of this crate.
-use Rattle.window_search.proofs.Searches.{skip_begun, skip_unknown}
-use Rattle.window_search.proofs.skip_windows_by_last.Goals as goal
-
-pub loop-w-init : goal.loop-w-init
-loop-w-init c = search skip_begun
-
-pub loop-w-preserved : goal.loop-w-preserved
-loop-w-preserved c = search skip_unknown
