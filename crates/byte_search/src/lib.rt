@@ -28,7 +28,7 @@ pub fn any_in_block<const N: u8, F: Fn(usize) -> bool + Copy>(test: F, i: usize)
 }
 
 // The lane j of a block where it passes the test, else the block's end.
-fn lane_or_end<const N: u8>(hit: bool, j: u8) -> u8
+pub fn lane_or_end<const N: u8>(hit: bool, j: u8) -> u8
     requires { j < N }
     ensures few { result ≤ N }
     ensures over { j < result → hit ≡ false }

@@ -31,9 +31,10 @@ impl ByteSet {
         ByteSet { words: [0; 4] }
     }
 
+    // By reference: a set that is handed over is copied, and a loop over all bytes copied it for each.
     #[tactic(auto, using(crate::proofs::SetSteps::member_is))]
-    pub fn contains(self, c: u8) -> bool
-        ensures { result ≡ member self.words c }
+    pub fn contains(&self, c: u8) -> bool
+        ensures { result ≡ member self.now.words c }
     {
         (self.words[usize::from(c / 64)] >> (c % 64)) % 2 == 1
     }

@@ -46,12 +46,12 @@ module _ (h : Held) where
     tested : is_tail (held_of h) ≡ can_grow form_limit (held_of h)
     tested = not_empty (held_of h) (λ e. some (sym (length-take-le h.len h.bytes (omega (arith, f.long, f.few))) ∙ e))
 
-    tail-decoded : (code k : ℕ) → r ≡ Decoded code k → false ≡ is_tail (held_of h)
+    pub tail-decoded : (code k : ℕ) → r ≡ Decoded code k → false ≡ is_tail (held_of h)
     tail-decoded code k e =
         let g = decoded_told form_limit (held_of h) code k (sym e ∙ x.is) in
         sym (tested ∙ T_false (can_grow form_limit (held_of h)) (λ t. not_none (sym (ref_growing form_limit (held_of h) t) ∙ g)))
 
-    tail_literal : r ≡ Literal → false ≡ is_tail (held_of h)
+    pub tail_literal : r ≡ Literal → false ≡ is_tail (held_of h)
     tail_literal e = sym (tested ∙ (literal_told form_limit (held_of h) (sym e ∙ x.is)).1)
 
     pub tail_incomplete : r ≡ Incomplete → true ≡ is_tail (held_of h)

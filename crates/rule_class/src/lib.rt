@@ -11,7 +11,7 @@ use byte_set::ByteSet;
 
 // A range (a single byte is one of length 1) or the closing `]`, and the place after it.
 #[derive(Clone, Copy)]
-enum ClassItem {
+pub enum ClassItem {
     Range(u8, u8, usize),
     Close(usize),
 }

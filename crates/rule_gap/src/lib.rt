@@ -6,9 +6,9 @@ ghost use Rattle.rule_gap.specs.Bounds.{ReadsDigit, ReadsBound, ReadsBounds, une
 
 // A bound of a gap, and the place after it.
 #[derive(Clone, Copy)]
-struct Bound {
-    value: u32,
-    next: usize,
+pub struct Bound {
+    pub value: u32,
+    pub next: usize,
 }
 
 // A gap's bounds, and the place after its `}`.

@@ -85,7 +85,7 @@ module _ (A : Automaton) (size : ℕ) (text : List ℕ) (w : ℕ) (f : Window si
       look_over A size text w (look_begun A size text w f) b d q (omega arith) (eb ∙ ap (λ (i : ℕ). get_or text i 0) k) stepped e
 
   module _ (n : size - 1 ≡ 0 → ⊥) where
-    first_emptied : d ≡ 0 → WindowIs A size text w (record { shift = size; hit = false })
+    pub first_emptied : d ≡ 0 → WindowIs A size text w (record { shift = size; hit = false })
     first_emptied z = look_emptied A size text w (look_begun A size text w f) (omega arith) eb stepped z
 
     pub first-empty : {r : Bool} → EmptyIs d r → r ≡ true → WindowIs A size text w (record { shift = size; hit = false })

@@ -68,7 +68,7 @@ impl States for Wide {
 }
 
 // The blocks of the optional positions are kept beside the masks, as each step asks them.
-#[derive(Drop)]
+#[derive(Clone, Copy)]
 pub struct WideReader<'a> {
     table: &'a [u64],
     masks: WideMasks,

@@ -27,7 +27,7 @@ impl States for u64 {
     }
 }
 
-#[derive(Drop)]
+#[derive(Clone, Copy)]
 pub struct WordReader<'a> {
     table: &'a [u64],
     masks: Masks,

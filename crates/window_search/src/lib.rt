@@ -143,7 +143,9 @@ impl<R: Reader> Search<'_, R> {
         k
     }
 
-    // Passes over windows from w on whose last byte stands at no position.
+    // Passes over windows from w on whose last byte stands at no position. Never inline: the table lies in a
+    // caller's frame, and told from there its loop is so long that a jump ends on a line of 32 bytes.
+    #[inline(never)]
     fn skip_windows_by_last(&self, text: &[u8], w: usize) -> Skipped
         requires w_in_bounds { w ≤ length text.now }
         ensures { SkippedIs (R.automaton self.now.reversed.now) self.now.size text.now w result.next result.windows }
