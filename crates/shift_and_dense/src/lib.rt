@@ -141,7 +141,9 @@ fn loop_branchless(
     }
 }
 
-// The loop without a test for the flood: at least one byte, and only one where the state is not closed.
+// The loop without a test for the flood: at least one byte, and only one where the state is not closed. Never
+// inline: in its caller most of the masks lie in memory.
+#[inline(never)]
 pub fn run_dense_loop(
     table: &[u64],
     m: Masks,

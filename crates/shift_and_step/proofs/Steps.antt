@@ -1,9 +1,10 @@
 -- The step where it may be done by less: nothing to flood, a state as a step leaves it. Assumes nothing.
-use Rattle.std.proofs.Common.{◌≡◌, ℕ, ◌+◌, ◌-◌, ◌*◌, ◌%◌, ◌^◌, ◌<◌, Bool, true, false, ◌||◌, T, eqb, sym, ap, ◌∙◌, subst, lt_of_le_of_lt, arith, eqb-true}
+use Rattle.std.proofs.Common.{◌≡◌, ℕ, ◌+◌, ◌-◌, ◌*◌, ◌%◌, ◌^◌, ◌<◌, Bool, true, false, ◌||◌, ◌&&◌, T, eqb, sym, ap, ◌∙◌, subst, lt_of_le_of_lt, arith, eqb-true, refl}
 use lib.Bits.{bit_and, bit_or, bit_xor, and_le_l, and_le_r, or_lt, and_zero_r}
 use Rattle.shift_and.specs.Bit.{is_set, bit}
 use Rattle.shift_and.specs.ForwardStep.{wrap_sub, move, flood, advance, block_starts, block_ends, opening}
-use Rattle.shift_and.proofs.Digits.{or_bit, wrapped}
+use Rattle.shift_and.proofs.Digits.{or_bit, and_bit, wrapped}
+use Rattle.shift_and.proofs.DisjointBits.{same-all}
 use Rattle.shift_and.proofs.Guarded.{flood_guarded}
 use Rattle.shift_and.proofs.Unchanged.{flood-none, flood-lt, move-lt, move-odd, bit-odd, odd-bit}
 use Rattle.shift_and.proofs.ClosedStates.{flood-again, flood-start, flood_quiet, start_in, start-lt, has_beside}
@@ -17,6 +18,22 @@ use Rattle.shift_and_step.specs.ClosedStates.{ClosureMasksOf, Closed, ClosedIs, 
 pub step_none : (m : Masks) (k d b x : ℕ) → m.optional ≡ 0 → x ≡ move 64 d b (bit_and b m.repeats) k → x ≡ step_n m k d b
 unfolding step_with advance
 step_none m k d b x z e = e ∙ sym (flood-none 64 _ (block_starts 64 0) (block_ends 64 0)) ∙ rw z
+
+-- the move by the positions that may follow a state
+pub by_follow : (d b r k : ℕ) → bit_or (bit_and b (bit_or (d * 2 % 2 ^ 64) (bit_and d r))) k ≡ move 64 d b (bit_and b r) k
+unfolding move
+by_follow d b r k =
+    same-all (bit_or (bit_and b (bit_or (d * 2 % 2 ^ 64) (bit_and d r))) k) (bit_or (bit_or (bit_and (d * 2 % 2 ^ 64) b) (bit_and d (bit_and b r))) k)
+    (λ j. simp (or_bit, and_bit) (shared (bit (d * 2 % 2 ^ 64) j) (bit d j) (bit b j) (bit r j) (bit k j)))
+  where
+    shared : (p q b r k : Bool) → ((b && (p || (q && r))) || k) ≡ (((p && b) || (q && (b && r))) || k)
+    shared true q true r k = refl
+    shared false true true r k = refl
+    shared false false true r k = refl
+    shared true true false r k = refl
+    shared true false false r k = refl
+    shared false true false r k = refl
+    shared false false false r k = refl
 
 -- an odd state stays odd in the flood, and so every step leaves one
 flood-odd : (w d a i f : ℕ) → bit d 0 ≡ true → bit (flood w d a i f) 0 ≡ true

@@ -121,6 +121,15 @@ fn move_keeping_start(d: u64, b: u64, repeats: u64, start: u64) -> u64
     ((d << 1) & b) | (d & ((b & repeats) | start))
 }
 
+// The same move, of any state, by the positions that may follow it, which hang on the state alone: fewer
+// operations, of which one more waits for d, and a loop in which the state stays needs the first ones once.
+fn move_by_follow(d: u64, b: u64, repeats: u64, start: u64) -> u64
+    ensures { result ≡ Step.move 64 d b (bit_and b repeats) start }
+{
+    let follow = (d << 1) | (d & repeats);
+    (b & follow) | start
+}
+
 // One step where no position is optional but leading ones: there is nothing to flood.
 pub fn step_no_closure(d: u64, b: u64, m: Masks, q: ClosureMasks) -> u64
     requires closure_masks_of { ClosureMasksOf m.optional q }
@@ -128,7 +137,7 @@ pub fn step_no_closure(d: u64, b: u64, m: Masks, q: ClosureMasks) -> u64
     requires closed { Closed m d }
     ensures { StepsTo m d b result }
 {
-    move_keeping_start(d, b, m.repeats, q.start)
+    move_by_follow(d, b, m.repeats, q.start)
 }
 
 // One step. It floods only where the moved state has a bit of `closing`, since the flood changes nothing
@@ -172,6 +181,6 @@ pub fn is_fixpoint(d: u64, b: u64, m: Masks, q: ClosureMasks) -> bool
     requires closed { Closed m d }
     ensures { Fixpoint m d b result }
 {
-    let x = move_keeping_start(d, b, m.repeats, q.start);
+    let x = move_by_follow(d, b, m.repeats, q.start);
     x == d
 }

@@ -143,8 +143,8 @@ impl<R: Reader> Search<'_, R> {
         k
     }
 
-    // Passes over windows from w on whose last byte stands at no position. Never inline: the table lies in a
-    // caller's frame, and told from there its loop is so long that a jump ends on a line of 32 bytes.
+    // Passes over windows from w on whose last byte stands at no position. Never inline: in a caller where the
+    // table is a local, the loop's instructions are longer, and its jump ends on a line of 32 bytes.
     #[inline(never)]
     fn skip_windows_by_last(&self, text: &[u8], w: usize) -> Skipped
         requires w_in_bounds { w ≤ length text.now }
